@@ -1,0 +1,10 @@
+pub mod Parts
+pub mod RingLaws
+pub mod OrderLaws
+pub mod RingSolver
+pub mod Quotes
+pub mod Certificates
+pub mod Solve
+pub mod Bounds
+pub mod Division
+pub mod Machine
