@@ -8,3 +8,7 @@ pub mod Solve
 pub mod Bounds
 pub mod Division
 pub mod Machine
+pub mod Booleans
+pub mod Lists
+pub mod Sorting
+pub mod Least
