@@ -8,7 +8,12 @@ pub mod Solve
 pub mod Bounds
 pub mod Division
 pub mod Machine
+pub mod Rounding
+pub mod Divides
+pub mod Gcd
+pub mod LowestTerms
 pub mod Booleans
 pub mod Lists
 pub mod Sorting
 pub mod Least
+pub mod Crossing

@@ -5,20 +5,21 @@
 --     <ℤ→suc≤ℤ, suc≤ℤ→<ℤ                                                     x < y as x + 1 ≤ y
 --     sub-nonneg, nonneg-sub, sub-pos, pos-sub, +ℤ-mono                      differences and sums
 --     mul-nonneg, mul-pos, square-nonneg, *ℤ-mono-l, *ℤ-mono-r               products
---     pos-cancel-≤, pos-cancel-<, pos-cancel-≡, *ℤ-cancel-≤, *ℤ-cancel-<     a positive factor cancelled
+--     pos-cancel-≤, pos-cancel-<, pos-cancel-≡, *ℤ-cancel-≤, *ℤ-cancel-<, *ℤ-cancel-≡   a positive factor cancelled
+--     by-ltZ                                                                 a branch on the test x < y, by what the test says of x and y
 --
 -- Example: `elim (≤ℤ-or-<ℤ x y) [ inl h ↦ .. | inr h ↦ .. ]` goes by whether x ≤ y or y < x; with h : pos 0 <ℤ d and k : (d *ℤ a) ≤ℤ (d *ℤ b), `*ℤ-cancel-≤ d h k : a ≤ℤ b`.
 -- Assumes nothing.
 use mathlib.Core.Path.{_≡_, refl, sym, _∙_, ap, subst}
 use mathlib.Core.Logic.{_⊎_, inl, inr}
-use mathlib.Core.Bool.{Bool, true, false}
+use mathlib.Core.Bool.{Bool, true, false, not}
 use Prim.Native.Nat.{suc, _*_}
 use native.Mathlib.Nat as NatL
 use native.Mathlib.Omega.{arith}
 use lib.Dec.{T}
 use lib.IntN.{ℤ, pos, negsuc, negℤ, natAbs, _+ℤ_, _-ℤ_, _*ℤ_, *ℤ-comm, negℤ-negℤ}
-use lib.Signed.{_≤ℤ_, _<ℤ_, leZ}
-use Rattle.integers.specs.Parts.{posPart, negPart, parts-add, parts-sub, posPart-neg, negPart-neg, ≤-fromℕ, <-fromℕ, leZ-fromℕ, ints}
+use lib.Signed.{_≤ℤ_, _<ℤ_, leZ, ltZ, ltZ-no}
+use Rattle.integers.specs.Parts.{parts-add, parts-sub, posPart-neg, negPart-neg, ≤-fromℕ, <-fromℕ, leZ-fromℕ, ints}
 use Rattle.integers.specs.RingLaws.{*ℤ-+, *ℤ-neg}
 
 -- ---- the order
@@ -140,3 +141,14 @@ neg-flip {z} h = omega (ints, posPart-neg z, negPart-neg z)
 pub pos-cancel-≡ : {m x : ℤ} → pos 0 <ℤ m → m *ℤ x ≡ pos 0 → x ≡ pos 0
 pos-cancel-≡ {m} {x} h e =
     ≤ℤ-antisym (neg-flip (pos-cancel-≤ {x = negℤ x} h (≤ℤ-of-≡ (sym (*ℤ-neg m x ∙ ap negℤ e))))) (pos-cancel-≤ {x = x} h (≤ℤ-of-≡ (sym e)))
+
+pub *ℤ-cancel-≡ : {a b : ℤ} (k : ℤ) → pos 0 <ℤ k → k *ℤ a ≡ k *ℤ b → a ≡ b
+*ℤ-cancel-≡ {a} {b} k h e = ≤ℤ-antisym (*ℤ-cancel-≤ {a = a} {b = b} k h (≤ℤ-of-≡ e)) (*ℤ-cancel-≤ {a = b} {b = a} k h (≤ℤ-of-≡ (sym e)))
+
+-- ---- what a test says
+pub by-ltZ : (C : Bool → Type 0) (x y : ℤ) → (x <ℤ y → C true) → (y ≤ℤ x → C false) → C (ltZ x y)
+by-ltZ C x y f g = by (ltZ x y) refl
+  where
+    by : (b : Bool) → ltZ x y ≡ b → C b
+    by true e = f (record { lt = subst T (sym e) tt })
+    by false e = g (ltZ-no (subst (λ b. T (not b)) (sym e) tt))
