@@ -1,0 +1,134 @@
+-- The trial traces of document 01 that are marked to be proved: one table, and one theorem that each case gives what is expected.
+--
+--     table                  a call and its result, for each case
+--     table-holds            each call gives its result, by computation
+--
+-- Assumes nothing.
+use mathlib.Core.Path.{_≡_, refl}
+use Prim.Native.Nat.{ℕ}
+use mathlib.Core.List.{List, [], _∷_, _++_, map, getLastD}
+use lib.ListN.{replicate}
+use lib.IntN.{ℤ, pos, negℤ}
+use Rattle.integers.specs.Lists.{all, any, filter}
+use Rattle.integers.specs.Sorting.{insert, sorted}
+use Rattle.integers.specs.Least.{scan, first, firstByEnds}
+use Rattle.integers.specs.Gcd.{euclid, gcd}
+use Rattle.integers.specs.LowestTerms.{commonDivisor}
+use Rattle.definitions.specs.Spans.{segmentRoom, cornerRoom, readRoom}
+use Rattle.definitions.specs.Times.{none, at}
+use Rattle.definitions.specs.Ranges.{Range, Lists, zipRanges, rangesOf}
+use Rattle.definitions.specs.Lines.{Line, reading, fitsRange, fits, sideAt, notBelow, atOrAbove, through, throughEnds, candidatesFrom, candidates, hasLine}
+use Rattle.definitions.specs.Corners.{reduced, eqZ, before, side, between, betweenSome, fitting, extreme, cornerOrder, corners}
+use Rattle.definitions.specs.Splits.{cutFrom, cut, lastRun}
+use Rattle.definitions.specs.Segments.{segments, runningAfter}
+use Rattle.definitions.specs.Outlook.{someTime, allTime, Outlook, open-strip, lines, outlookOf, endTime, outlook}
+use Rattle.definitions.specs.Results.{Segment, segmentOf, segmentsOf}
+use Rattle.definitions.specs.Answers.{Answer, refused, accepted, _>>=_, firstRow}
+use Rattle.definitions.specs.Trial.{outside, badAddress, notAbove, rangeRows, rangesRows, tooShort, differ, listRows, segmentRows, cornerRows}
+use Rattle.definitions.specs.TraceFile.{Trace, word, signed, header, takeField, addressOf, levelOf, rangeOf, addressRows, levelRows, readRanges, readFile}
+use Rattle.definitions.specs.Calls.{Fit, bounded, fitOf, segmentCall, cornersCall, readCall}
+
+-- Segment with a level and lists, Corners with k and lists, or Read with a file; the lent slices are as long as they must be
+pub data Call : Type 0 where
+  segment : ℤ → Lists → Call
+  cornersAfter : ℕ → Lists → Call
+  read : List ℕ → Call
+
+pub data Result : Type 0 where
+  segmented : Answer (List Segment) → Result
+  cornered : Answer Fit → Result
+  opened : Answer Trace → Result
+
+pub run : Call → Result
+run (segment level ls) = segmented (segmentCall (replicate 11 segmentRoom) level ls)
+run (cornersAfter k ls) = cornered (cornersCall (replicate 3 cornerRoom) k ls)
+run (read bs) = opened (readCall (replicate 3 readRoom) bs)
+
+infix 85 _gives_
+pub data Case : Type 0 where
+  _gives_ : Call → Result → Case
+
+pub callOf : Case → Call
+callOf (c gives r) = c
+
+pub resultOf : Case → Result
+resultOf (c gives r) = r
+
+-- ---- the traces and files of the table
+
+abbrev minus : ℕ → ℤ
+minus n = negℤ (pos n)
+
+abbrev line : ℤ → ℤ → ℤ → Line
+line p q d = record { p = p; q = q; d = d }
+
+abbrev trace : List ℕ → List ℤ → List ℤ → Lists
+trace ts us vs = record { times = ts; lows = us; highs = vs }
+
+-- the trace of the report's example
+abbrev sample : Lists
+sample = trace (10 ∷ 20 ∷ 30 ∷ 40 ∷ 50 ∷ []) (pos 0 ∷ pos 4 ∷ pos 10 ∷ pos 9 ∷ pos 9 ∷ []) (pos 4 ∷ pos 8 ∷ pos 14 ∷ pos 11 ∷ pos 12 ∷ [])
+
+-- three ranges that are points, the last at u
+abbrev points : ℤ → Lists
+points u = trace (0 ∷ 1 ∷ 2 ∷ []) (pos 0 ∷ pos 1 ∷ u ∷ []) (pos 0 ∷ pos 1 ∷ u ∷ [])
+
+-- one range, from u to v
+abbrev one : ℤ → ℤ → Lists
+one u v = trace (0 ∷ []) (u ∷ []) (v ∷ [])
+
+-- address 7 and level 20, with no range
+abbrev header11 : List ℕ
+header11 = 1 ∷ 0 ∷ 1 ∷ 7 ∷ 2 ∷ 0 ∷ 4 ∷ 0 ∷ 0 ∷ 0 ∷ 20 ∷ []
+
+-- a range field with numbers below 256
+abbrev rangeField : ℕ → ℕ → ℕ → List ℕ
+rangeField t u v = 3 ∷ 0 ∷ 12 ∷ 0 ∷ 0 ∷ 0 ∷ t ∷ 0 ∷ 0 ∷ 0 ∷ u ∷ 0 ∷ 0 ∷ 0 ∷ v ∷ []
+
+-- the report's file of 86 bytes
+abbrev sampleFile : List ℕ
+sampleFile = header11 ++ rangeField 10 0 4 ++ rangeField 20 4 8 ++ rangeField 30 10 14 ++ rangeField 40 9 11 ++ rangeField 50 9 12
+
+-- ---- what is expected
+
+abbrev fitIs : List Line → Result
+fitIs ls = cornered (accepted (bounded ls))
+
+abbrev segmentsAre : List Segment → Result
+segmentsAre ss = segmented (accepted ss)
+
+abbrev part : ℕ → ℕ → ℕ → Outlook → Segment
+part a b n o = record { firstTime = a; lastTime = b; count = n; outlook = o }
+
+abbrev traceIs : List Range → Result
+traceIs rs = opened (accepted (record { address = 7; level = pos 20; ranges = rs }))
+
+-- ---- the table
+
+pub table : List Case
+table =
+    cornersAfter 3 sample gives fitIs (line (pos 3) (pos 10) (pos 10) ∷ line (pos 2) (pos 0) (pos 5) ∷ line (pos 3) (minus 20) (pos 5) ∷ line (pos 7) (minus 70) (pos 10) ∷ line (pos 1) (minus 10) (pos 2) ∷ [])
+    ∷ cornersAfter 5 sample gives fitIs (line (minus 1) (pos 95) (pos 5) ∷ line (pos 1) (pos 70) (pos 10) ∷ line (pos 3) (minus 30) (pos 10) ∷ line (pos 0) (pos 9) (pos 1) ∷ [])
+    ∷ segment (pos 20) sample gives segmentsAre
+    (part 10 30 3 (lines (line (pos 3) (pos 10) (pos 10)) (line (pos 7) (minus 70) (pos 10)) (at 39) (at 64))
+    ∷ part 40 50 2 (lines (line (minus 1) (pos 95) (pos 5)) (line (pos 3) (minus 30) (pos 10)) (at 77) none)
+    ∷ [])
+    ∷ cornersAfter 3 (points (pos 2)) gives fitIs (line (pos 1) (pos 0) (pos 1) ∷ [])
+    ∷ segment (pos 1) (points (pos 3)) gives segmentsAre
+    (part 0 1 2 (lines (line (pos 1) (pos 0) (pos 1)) (line (pos 1) (pos 0) (pos 1)) (at 1) (at 1))
+    ∷ part 2 2 1 open-strip
+    ∷ [])
+    ∷ segment (pos 20) (trace [] [] []) gives segmentsAre []
+    ∷ segment (pos 20) (trace (7 ∷ 7 ∷ []) (pos 0 ∷ pos 0 ∷ []) (pos 0 ∷ pos 0 ∷ [])) gives segmented (refused 6)
+    ∷ segment (pos 20) (one (pos 1) (pos 0)) gives segmented (refused 5)
+    ∷ segment (pos 20) (one (pos 0) (pos 268435456)) gives segmentsAre (part 0 0 1 open-strip ∷ [])
+    ∷ segment (pos 20) (one (pos 0) (pos 268435457)) gives segmented (refused 4)
+    ∷ read [] gives opened (refused 1)
+    ∷ read header11 gives traceIs []
+    ∷ read sampleFile gives traceIs (rangesOf sample)
+    ∷ cornersAfter 0 sample gives cornered (refused 9)
+    ∷ []
+
+pub table-holds : map (λ c. run (callOf c)) table ≡ map resultOf table
+unfolding table run callOf resultOf all any filter reading fitsRange fits sideAt notBelow atOrAbove through throughEnds candidatesFrom candidates hasLine euclid gcd commonDivisor reduced eqZ before side between betweenSome insert sorted fitting extreme getLastD cornerOrder corners cutFrom cut lastRun segments runningAfter scan firstByEnds first someTime allTime outlookOf endTime outlook segmentOf segmentsOf _>>=_ firstRow outside badAddress notAbove rangeRows rangesRows tooShort zipRanges rangesOf differ listRows segmentRows cornerRows word signed header takeField addressOf levelOf rangeOf addressRows levelRows readRanges readFile fitOf readCall segmentCall cornersCall
+table-holds = refl

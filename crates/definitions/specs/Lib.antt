@@ -1,0 +1,15 @@
+pub mod Spans
+pub mod Times
+pub mod Ranges
+pub mod Lines
+pub mod Corners
+pub mod Splits
+pub mod Fit
+pub mod Segments
+pub mod Outlook
+pub mod Results
+pub mod Answers
+pub mod Trial
+pub mod TraceFile
+pub mod Calls
+pub mod Cases

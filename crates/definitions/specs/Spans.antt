@@ -1,0 +1,41 @@
+-- The numbers that document 01 fixes, each once.
+--
+--     mostValue                        lows, highs and the service level run from −268,435,456 to 268,435,456
+--     mostTime                         times run from 0 to 4,294,967,295
+--     mostRanges                       a trace has 0 to 4,096 ranges
+--     leastAddress, mostAddress        a detector's address
+--     readRoom, writeRoom, segmentRoom, cornerRoom   the least length of each slice that a call fills
+--
+-- Assumes nothing.
+use Prim.Native.Nat.{ℕ}
+
+abbrev pub mostValue : ℕ
+mostValue = 268435456
+
+abbrev pub mostTime : ℕ
+mostTime = 4294967295
+
+abbrev pub mostRanges : ℕ
+mostRanges = 4096
+
+abbrev pub leastAddress : ℕ
+leastAddress = 1
+
+abbrev pub mostAddress : ℕ
+mostAddress = 255
+
+-- Read: times, lows and highs
+abbrev pub readRoom : ℕ
+readRoom = 4096
+
+-- Write: the file's bytes, as many as the largest file has
+abbrev pub writeRoom : ℕ
+writeRoom = 61451
+
+-- Segment: each of the eleven slices
+abbrev pub segmentRoom : ℕ
+segmentRoom = 2048
+
+-- Corners: p, q and d
+abbrev pub cornerRoom : ℕ
+cornerRoom = 8192
