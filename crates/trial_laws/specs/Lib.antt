@@ -1,0 +1,7 @@
+pub mod Rows
+pub mod CallLaws
+pub mod LeastTime
+pub mod RangeLists
+pub mod ListTrial
+pub mod Inside
+pub mod Accepted
