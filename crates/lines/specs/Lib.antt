@@ -1,0 +1,9 @@
+pub mod LineOrder
+pub mod MeanLaws
+pub mod Levels
+pub mod HasLine
+pub mod FittingLines
+pub mod CornerOrder
+pub mod CornerFacts
+pub mod CornerList
+pub mod OutlookTimes
