@@ -3,6 +3,7 @@
 --     fitsRange-iff, fits-iff                      the tests of a line decide FitsRange and, where d is above 0, InFit
 --     candidates-positive                          each candidate of ranges in order has d above 0
 --     lowLine, lowLine-fits, every-slope           one range has a line of every slope p/d: the one through its low
+--     through-first, through-second                the line through two points has their values at their times
 --     pair-fits, pair-has-line                     two ranges always have a line: the one through their lows
 --     InFit-append, InFit-left, InFit-right        the lines of the fit of xs ++ ys are those of both fits
 --     HasLine-left, HasLine-right, HasLine-part    consecutive parts of ranges with a line have a line
@@ -86,10 +87,10 @@ unfolding lowLine
 every-slope r o p d h = (lowLine r p d .q, lowLine-fits r o p d h)
 
 module _ (a u b v : ℤ) where
-  through-first : (v -ℤ u) *ℤ a +ℤ (u *ℤ b -ℤ v *ℤ a) ≡ (b -ℤ a) *ℤ u
+  pub through-first : (v -ℤ u) *ℤ a +ℤ (u *ℤ b -ℤ v *ℤ a) ≡ (b -ℤ a) *ℤ u
   through-first = polynomial! (a ∷ u ∷ b ∷ v ∷ []) (search claims depth 40) (omega arith)
 
-  through-second : (v -ℤ u) *ℤ b +ℤ (u *ℤ b -ℤ v *ℤ a) ≡ (b -ℤ a) *ℤ v
+  pub through-second : (v -ℤ u) *ℤ b +ℤ (u *ℤ b -ℤ v *ℤ a) ≡ (b -ℤ a) *ℤ v
   through-second = polynomial! (a ∷ u ∷ b ∷ v ∷ []) (search claims depth 40) (omega arith)
 
 pub pair-fits : (r s : Range) → Ordered (r ∷ s ∷ []) → InFit (r ∷ s ∷ []) (through (r .time) (r .low) (s .time) (s .low))

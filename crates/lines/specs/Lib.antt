@@ -7,3 +7,6 @@ pub mod CornerOrder
 pub mod CornerFacts
 pub mod CornerList
 pub mod OutlookTimes
+pub mod Polygon
+pub mod RunOutlook
+pub mod Theorems

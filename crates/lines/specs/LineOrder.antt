@@ -14,7 +14,7 @@
 --     eqZ-means, eqZ-passes                  the test of equality
 --
 --     SameOrder x y x′ y′                    x is to y as x′ is to y′: below, equal or above; order-≤, order-<, order-flip
---     Restates l m                           l and m are the same line, both with d above 0; restates-sym, reduced-restates: a line and its lowest terms
+--     Restates l m                           l and m are the same line, both with d above 0; restates-refl, restates-sym, reduced-restates: a line and its lowest terms
 --     slope-same, reading-same, side-same    slope against slope, value against level, side of the diagonal: alike for lines that restate each other
 --     SlopeBelow-same, Reaches-same, FitsRange-same, InFit-same   so each of these passes from a line to one that restates it
 --
@@ -230,6 +230,9 @@ pub record Restates (l m : Line) : Type 0 where
   pub same : SameLine l m
   pub left-positive : Positive l
   pub right-positive : Positive m
+
+pub restates-refl : {l : Line} → Positive l → Restates l l
+restates-refl {l} h = record { same = same-refl l; left-positive = h; right-positive = h }
 
 pub restates-sym : {l m : Line} → Restates l m → Restates m l
 restates-sym r = record { same = same-sym (r .same); left-positive = r .right-positive; right-positive = r .left-positive }

@@ -1,0 +1,117 @@
+-- The front page: what document 01's definitions mean. Ranges are ordered, as those of every accepted trace are; p, q and d of a line are of any size, d above 0.
+--
+-- The fit
+--     has-line                   `hasLine` passes exactly if some line fits each of the ranges
+--     one-range-open             one range has lines of every slope
+--     two-ranges                 two ranges always have a line
+-- The corners of two or more ranges that have a line
+--     corners-exact              a line is listed exactly if it is a corner, in lowest terms
+--     corners-ordered, corners-once, corners-count   in corner order, none twice, at most 2k for k ranges
+--     corners-unique             no other list is so
+--     corners-fit, corners-mean  each fits, and every line of the fit is a weighted mean of them
+-- The outlook of two or more ranges that have a line
+--     outlook-means              its lines have the least and the greatest slope of the fit, its times are the least at which some and all lines of the fit reach the level (RunOutlook)
+-- The segments: demand 3
+--     segments-split             they are a split
+--     segments-times, segments-ranges   the times given are those of the first and the last range of each, and its ranges are those from the one time to the other
+--     segments-ahead             no split's j-th run ends after the j-th segment, by last times; segments-ahead-count: by the number of ranges, for every j
+--     segments-fewest            every split has at least as many runs
+--     segments-close             where a further range closes a segment, two ranges of it and the further one have no line
+--     segments-room              at most 2,048
+--     segments-back              cutting from the end gives as many
+--     running-has-line           the segment then running after k ranges is not empty and has a line
+--
+-- Assumes nothing.
+use mathlib.Core.Path.{_≡_}
+use mathlib.Core.Logic.{_↔_}
+use mathlib.Core.List.{List, [], _∷_, _++_, reverse, List·Nodup}
+use Prim.Native.Nat.{ℕ, _*_, _<_, _≤_}
+use lib.Dec.{T}
+use lib.IntN.{ℤ, pos}
+use lib.ListN.{length, getD}
+use lib.Signed.{_<ℤ_}
+use Rattle.integers.specs.Lists.{All, All-of, In, filter}
+use Rattle.integers.specs.LowestTerms.{InLowestTerms}
+use Rattle.definitions.specs.Spans.{mostRanges, segmentRoom}
+use Rattle.definitions.specs.Ranges.{Range}
+use Rattle.definitions.specs.Lines.{Line, hasLine}
+use Rattle.definitions.specs.Corners.{corners}
+use Rattle.definitions.specs.Fit.{InFit, HasLine, Ordered, WeightedMean, Corner, InCornerOrder}
+use Rattle.definitions.specs.Splits.{cut, GoodRun, Split, endOf}
+use Rattle.definitions.specs.Segments.{segments, runningAfter}
+use Rattle.definitions.specs.Results.{segmentOf, segmentsOf}
+use Rattle.splits.specs.OrderedRanges.{firstTimeOf, lastTimeOf}
+use Rattle.splits.specs.RunTimes.{inSpan}
+use Rattle.splits.specs.Segments.{TimesOf, TwoWithout}
+use Rattle.splits.specs.Segments as Splits
+use Rattle.lines.specs.HasLine.{every-slope, pair-has-line}
+use Rattle.lines.specs.CornerList as List01
+use Rattle.lines.specs.Polygon.{corners-of, decides, closes}
+
+-- ---- the fit
+
+pub has-line : (rs : List Range) → Ordered rs → T (hasLine rs) ↔ HasLine rs
+has-line rs o = (decides .means rs o, decides .passes rs o)
+
+pub one-range-open : (r : Range) → Ordered (r ∷ []) → (p d : ℤ) → pos 0 <ℤ d → (q : ℤ) × InFit (r ∷ []) (record { p = p; q = q; d = d })
+one-range-open r o = every-slope r (o .0)
+
+pub two-ranges : (r s : Range) → Ordered (r ∷ s ∷ []) → HasLine (r ∷ s ∷ [])
+two-ranges = pair-has-line
+
+-- ---- the corners
+
+module _ (r s : Range) (ws : List Range) (o : Ordered (r ∷ s ∷ ws)) (h : HasLine (r ∷ s ∷ ws)) where
+  pub corners-exact : (l : Line) → In l (corners (r ∷ s ∷ ws)) ↔ (Corner (r ∷ s ∷ ws) l × InLowestTerms (l .p) (l .q) (l .d))
+  corners-exact = List01.corners-exact o (corners-of r s ws o h)
+
+  pub corners-ordered : InCornerOrder (corners (r ∷ s ∷ ws))
+  corners-ordered = List01.corners-ordered o (corners-of r s ws o h)
+
+  pub corners-once : List·Nodup (corners (r ∷ s ∷ ws))
+  corners-once = List01.corners-once o (corners-of r s ws o h)
+
+  pub corners-count : length (corners (r ∷ s ∷ ws)) ≤ 2 * length (r ∷ s ∷ ws)
+  corners-count = List01.corners-count o (corners-of r s ws o h)
+
+  pub corners-unique : (ks : List Line) → InCornerOrder ks → ((l : Line) → In l ks ↔ (Corner (r ∷ s ∷ ws) l × InLowestTerms (l .p) (l .q) (l .d))) → ks ≡ corners (r ∷ s ∷ ws)
+  corners-unique = List01.corners-unique o (corners-of r s ws o h)
+
+  pub corners-fit : All (InFit (r ∷ s ∷ ws)) (corners (r ∷ s ∷ ws))
+  corners-fit = All-of (corners (r ∷ s ∷ ws)) (λ l i. corners-exact l .0 i .0 .fit)
+
+  pub corners-mean : (l : Line) → InFit (r ∷ s ∷ ws) l → WeightedMean (corners (r ∷ s ∷ ws)) l
+  corners-mean = List01.corners-mean o (corners-of r s ws o h)
+
+-- ---- the segments
+
+module _ (rs : List Range) (o : Ordered rs) where
+  pub segments-split : Split HasLine rs (segments rs)
+  segments-split = Splits.segments-split decides rs o
+
+  pub segments-times : (level : ℤ) (j : ℕ) → j < length (segments rs) → TimesOf (getD (segments rs) j []) (getD (segmentsOf level rs) j (segmentOf level []))
+  segments-times level = Splits.segments-times decides level rs o
+
+  pub segments-ranges : (j : ℕ) → j < length (segments rs) → filter (inSpan (firstTimeOf (getD (segments rs) j [])) (lastTimeOf (getD (segments rs) j []))) rs ≡ getD (segments rs) j []
+  segments-ranges = Splits.segments-ranges decides rs o
+
+  pub segments-ahead : (runs : List (List Range)) → Split HasLine rs runs → (j : ℕ) → j < length runs → j < length (segments rs) → lastTimeOf (getD runs j []) ≤ lastTimeOf (getD (segments rs) j [])
+  segments-ahead runs = Splits.segments-ahead-times decides rs runs o
+
+  pub segments-ahead-count : (runs : List (List Range)) → Split HasLine rs runs → (j : ℕ) → endOf j runs ≤ endOf j (segments rs)
+  segments-ahead-count runs = Splits.segments-ahead decides rs runs o
+
+  pub segments-fewest : (runs : List (List Range)) → Split HasLine rs runs → length (segments rs) ≤ length runs
+  segments-fewest runs = Splits.segments-fewest decides rs runs o
+
+  pub segments-close : (before : List (List Range)) (run : List Range) (w : Range) (more : List Range) (after : List (List Range)) → segments rs ≡ before ++ (run ∷ (w ∷ more) ∷ after) → TwoWithout run w
+  segments-close before run w more after = Splits.segments-close decides closes rs before run w more after o
+
+  pub segments-room : length rs ≤ mostRanges → length (segments rs) ≤ segmentRoom
+  segments-room = Splits.segments-room decides two-ranges rs o
+
+  pub segments-back : length (cut (λ run. hasLine (reverse run)) (reverse rs)) ≡ length (segments rs)
+  segments-back = Splits.segments-back decides rs o
+
+  pub running-has-line : (k : ℕ) → 0 < k → k ≤ length rs → GoodRun HasLine (runningAfter k rs)
+  running-has-line k = Splits.running-good decides k rs o
