@@ -122,11 +122,11 @@ module _ (P : Point → Type 0) (neg : (A : Point) → P A → P (negP A)) (o : 
     built-above : (x : Polygon) → Built P x → Built P (cutAbove N x)
     built-above x b = by (gap (x .fast) N)
       where
-        inner : (g : ℤ) → Built P (cutSlow g N x)
+        inner : (g : ℤ) → Built P (cutSlow keepUnder g N x)
         inner (pos k) = record { upper-in = b .upper-in; lower-in = b .lower-in; slow-in = b .slow-in; fast-in = b .slow-in }
         inner (negsuc k) = built-cut x b
 
-        by : (g : ℤ) → Built P (cutFast g N x)
+        by : (g : ℤ) → Built P (cutFast keepUnder g N x)
         by (pos zero) = b
         by (pos (suc k)) = inner (gap (x .slow) N)
         by (negsuc k) = b
@@ -134,7 +134,7 @@ module _ (P : Point → Type 0) (neg : (A : Point) → P A → P (negP A)) (o : 
     built-spot : (x : Polygon) → Built P x → Built P (spot N x)
     built-spot x b = by (gap (x .slow) N)
       where
-        inner : (g : ℤ) → Built P (spotFast g N x)
+        inner : (g : ℤ) → Built P (spotFast keepUnder g N x)
         inner (pos zero) = record { upper-in = b .upper-in; lower-in = b .lower-in; slow-in = b .fast-in; fast-in = b .fast-in }
         inner (pos (suc k)) =
             record {
@@ -145,7 +145,7 @@ module _ (P : Point → Type 0) (neg : (A : Point) → P A → P (negP A)) (o : 
             }
         inner (negsuc k) = b
 
-        by : (g : ℤ) → Built P (spotSlow g N x)
+        by : (g : ℤ) → Built P (spotSlow keepUnder g N x)
         by (pos k) = record { upper-in = b .upper-in; lower-in = b .lower-in; slow-in = b .slow-in; fast-in = b .slow-in }
         by (negsuc k) = inner (gap (x .fast) N)
 
@@ -155,7 +155,7 @@ module _ (P : Point → Type 0) (neg : (A : Point) → P A → P (negP A)) (o : 
   pub join-built : (r : Range) → P (H r) → P (L r) → (x : Polygon) → Built P x → Built P (join r x)
   join-built r h l x b = by (r .high -ℤ r .low)
     where
-      by : (g : ℤ) → Built P (joinIf g r x)
+      by : (g : ℤ) → Built P (joinIf keepUnder g r x)
       by (pos zero) = built-spot (H r) h x b
       by (pos (suc n)) = built-below (L r) l (cutAbove (H r) x) (built-above (H r) h x b)
       by (negsuc n) = b

@@ -206,11 +206,13 @@ abbrev pub Listed : List Line → Line → Type 0
 Listed ls l = Any (λ m. SameLine m l) ls
 
 module _ {F : Line → Type 0} {Top Bot : Point → Type 0} {T : ℤ} (laws : Laws F Top Bot T) (l : Line) (k : CornerOf F l) (c : ℤ) (c-over : pos 0 <ℤ c) where
-  find : {ls : List Line} (ws : Weights ls) → All F ls → c *ℤ l .p ≡ weighted (λ m. m .p) ws → c *ℤ l .q ≡ weighted (λ m. m .q) ws → c *ℤ l .d ≡ weighted (λ m. m .d) ws → Listed ls l
+  find : {ls : List Line} (ws : Weights ls) → All F ls → c *ℤ l .p ≡ weighted (λ m. m .p) ws → c *ℤ l .q ≡ weighted (λ m. m .q) ws → c *ℤ l .d ≡ weighted (λ m. m .d) ws
+      → Listed ls l
   find none fs p q d = absurd (no-product c (l .d) c-over (laws .positive l (k .fits)) d)
   find (more {l = x} {ls} w h ws) fs p q d = by (≤ℤ-or-<ℤ w (pos 0)) (gather laws ws (All-tail fs)) (find ws (All-tail fs))
     where
-      by : (w ≤ℤ pos 0) ⊎ (pos 0 <ℤ w) → Nothing ws ⊎ F (sumLine ws) → (c *ℤ l .p ≡ weighted (λ m. m .p) ws → c *ℤ l .q ≡ weighted (λ m. m .q) ws → c *ℤ l .d ≡ weighted (λ m. m .d) ws → Listed ls l) → Listed (x ∷ ls) l
+      by : (w ≤ℤ pos 0) ⊎ (pos 0 <ℤ w) → Nothing ws ⊎ F (sumLine ws)
+          → (c *ℤ l .p ≡ weighted (λ m. m .p) ws → c *ℤ l .q ≡ weighted (λ m. m .q) ws → c *ℤ l .d ≡ weighted (λ m. m .d) ws → Listed ls l) → Listed (x ∷ ls) l
       by (inl n) r later =
           let e : w ≡ pos 0 = ≤ℤ-antisym n h in
           Any-there (later (skip-term c (l .p) w (x .p) _ e p) (skip-term c (l .q) w (x .q) _ e q) (skip-term c (l .d) w (x .d) _ e d))
@@ -234,7 +236,8 @@ module _ {F : Line → Type 0} {Top Bot : Point → Type 0} {T : ℤ} (laws : La
           n one-over)
 
 -- ---- a corner is listed
-pub corner-listed : {F : Line → Type 0} {Top Bot : Point → Type 0} {T : ℤ} (laws : Laws F Top Bot T) (x : Polygon) → Chains F Top Bot x → (l : Line) → CornerOf F l → Listed (cornersOf x) l
+pub corner-listed : {F : Line → Type 0} {Top Bot : Point → Type 0} {T : ℤ} (laws : Laws F Top Bot T) (x : Polygon) → Chains F Top Bot x → (l : Line) → CornerOf F l
+    → Listed (cornersOf x) l
 corner-listed laws x ch l k =
     let m : WholeMean (cornersOf x) l = hull laws x ch l (k .fits) in
     find laws l k (m .c) (m .c-over) (m .weights) (All-imp (λ l p. p .fits) (corners-pinned x ch)) (m .on-p) (m .on-q) (m .on-d)

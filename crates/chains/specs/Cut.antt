@@ -35,11 +35,12 @@ Under F N l = F l × (gap l N ≤ℤ pos 0)
 abbrev pub With : (Point → Type 0) → Point → Point → Type 0
 With Top N A = Top A ⊎ (A ≡ N)
 
-under-with : {F : Line → Type 0} {Top Bot : Point → Type 0} {T : ℤ} (N : Point) → Laws F Top Bot T → (l : Line) (A : Point) → With Top N A → Under F N l → gap l A ≤ℤ pos 0
+under-with : {F : Line → Type 0} {Top Bot : Point → Type 0} {T : ℤ} (N : Point) → Laws F Top Bot T → (l : Line) (A : Point) → With Top N A → Under F N l
+    → gap l A ≤ℤ pos 0
 under-with N laws l A (inl a) f = laws .under l A a (f .0)
 under-with N laws l A (inr e) f = subst (λ B. gap l B ≤ℤ pos 0) (sym e) (f .1)
 
-pub early-with : {F : Line → Type 0} {Top Bot : Point → Type 0} {T : ℤ} (N : Point) → Laws F Top Bot T → T ≤ℤ N .t → (A : Point) → With Top N A → A .t ≤ℤ N .t
+early-with : {F : Line → Type 0} {Top Bot : Point → Type 0} {T : ℤ} (N : Point) → Laws F Top Bot T → T ≤ℤ N .t → (A : Point) → With Top N A → A .t ≤ℤ N .t
 early-with N laws le A (inl a) = ≤ℤ-trans (laws .top-early A a) le
 early-with N laws le A (inr e) = ≤ℤ-of-≡ (ap (λ B. B .t) e)
 
@@ -115,7 +116,8 @@ module _ {F : Line → Type 0} {Top Bot : Point → Type 0} {T : ℤ} (laws : La
             gy);
       }
 
-  kept-more : {v : Line} {A B : Point} {ks : List Point} → Bend F Top v A (through A B) → gap v N <ℤ pos 0 → A .t <ℤ B .t → Kept F Top N (through A B) (B ∷ ks) → Kept F Top N v (A ∷ B ∷ ks)
+  kept-more : {v : Line} {A B : Point} {ks : List Point} → Bend F Top v A (through A B) → gap v N <ℤ pos 0 → A .t <ℤ B .t → Kept F Top N (through A B) (B ∷ ks)
+      → Kept F Top N v (A ∷ B ∷ ks)
   kept-more {v} {A} {B} b h lt r =
       let b′ : Bend (Under F N) (With Top N) v A (through A B) = record { fits = (b .fits, <ℤ→≤ℤ h); top = inl (b .top); before = b .before; after = b .after; turns = b .turns } in
       record {
@@ -132,7 +134,8 @@ module _ {F : Line → Type 0} {Top Bot : Point → Type 0} {T : ℤ} (laws : La
   kept (last b fw) h k = kept-here b fw h k
   kept (next {v} {A} {B} {xs} b lt c) h k = by (gap (through A B) N) refl (λ j. kept c j k)
     where
-      by : (g : ℤ) → gap (through A B) N ≡ g → (gap (through A B) N <ℤ pos 0 → Kept F Top N (through A B) (keepUnder N (B ∷ xs))) → Kept F Top N v (A ∷ keepUnderIf g (B ∷ keepUnderAfter N B xs))
+      by : (g : ℤ) → gap (through A B) N ≡ g → (gap (through A B) N <ℤ pos 0 → Kept F Top N (through A B) (keepUnder N (B ∷ xs)))
+          → Kept F Top N v (A ∷ keepUnderIf g (B ∷ keepUnderAfter N B xs))
       by (pos n) e r = kept-here b (first-fits c) h (pos≥0 _ n e)
       by (negsuc n) e r = kept-more b h lt (r (negsuc<0 _ n e))
 
@@ -195,7 +198,8 @@ module _ {F : Line → Type 0} {Top Bot : Point → Type 0} {T : ℤ} (laws : La
       record { head = A; is-head = refl; top = b .top; before = new-lt b fw h k; fits = new-fits b fw h k; chain = last (new-bend b fw h k) (fw, <ℤ→≤ℤ k) }
   dropped-under (next {v} {w} {A} {B} {xs} b lt c) h k = by (gap (through A B) N) refl (λ j. dropped-under c j k)
     where
-      by : (g : ℤ) → gap (through A B) N ≡ g → (gap (through A B) N ≤ℤ pos 0 → DroppedUnder F Top N (dropUnder N (B ∷ xs)) w) → DroppedUnder F Top N (dropUnderIf g (A ∷ B ∷ xs) (dropUnderFrom N B xs)) w
+      by : (g : ℤ) → gap (through A B) N ≡ g → (gap (through A B) N ≤ℤ pos 0 → DroppedUnder F Top N (dropUnder N (B ∷ xs)) w)
+          → DroppedUnder F Top N (dropUnderIf g (A ∷ B ∷ xs) (dropUnderFrom N B xs)) w
       by (pos zero) e r = r (≤ℤ-of-≡ e)
       by (negsuc n) e r = r (<ℤ→≤ℤ (negsuc<0 _ n e))
       by (pos (suc n)) e r =
@@ -238,25 +242,28 @@ headOf-neg [] = refl
 headOf-neg (A ∷ xs) = refl
 
 -- ---- the lower chain after the cut: from the line through its new head and N
-pub record Dropped (F : Line → Type 0) (Top Bot : Point → Type 0) (N : Point) (ls : List Point) (s : Line) : Type 0 where
+pub record Dropped (F : Line → Type 0) (Bot : Point → Type 0) (N : Point) (ls : List Point) (s : Line) : Type 0 where
   pub bot : Bot (headOf ls)
   pub before : headOf ls .t <ℤ N .t
   pub fits : F (through (headOf ls) N)
   pub chain : Chain (λ l. Under F N (negL l)) (λ A. Bot (negP A)) (negL (through (headOf ls) N)) (negs ls) (negL s)
 
-dropped-of : {F : Line → Type 0} {Top Bot : Point → Type 0} {T : ℤ} → Laws F Top Bot T → (N : Point) (ls : List Point) (s : Line) → DroppedUnder (λ l. F (negL l)) (λ A. Bot (negP A)) (negP N) (negs ls) (negL s) → Dropped F Top Bot N ls s
-dropped-of {F} {Top} {Bot} laws N ls s r =
+dropped-of : {F : Line → Type 0} {Bot : Point → Type 0} (N : Point) (ls : List Point) (s : Line)
+    → DroppedUnder (λ l. F (negL l)) (λ A. Bot (negP A)) (negP N) (negs ls) (negL s)
+    → Dropped F Bot N ls s
+dropped-of {F} {Bot} N ls s r =
     let e : r .head ≡ negP (headOf ls) = sym (r .is-head) ∙ headOf-neg ls in
-    let e′ : negP (r .head) ≡ headOf ls = ap negP e ∙ negP-negP (headOf ls) in
+    let back : negP (r .head) ≡ headOf ls = ap negP e ∙ negP-negP (headOf ls) in
     let t : through (r .head) (negP N) ≡ negL (through (headOf ls) N) = ap (λ A. through A (negP N)) e ∙ sym (through-neg (headOf ls) N) in
     record {
-      bot = subst Bot e′ (r .top);
-      before = subst (λ A. A .t <ℤ N .t) e′ (r .before);
+      bot = subst Bot back (r .top);
+      before = subst (λ A. A .t <ℤ N .t) back (r .before);
       fits = subst F (ap negL t ∙ negL-negL (through (headOf ls) N)) (r .fits);
       chain = subst (λ v. Chain (λ l. Under F N (negL l)) (λ A. Bot (negP A)) v (negs ls) (negL s)) t (chain-map (λ l f. (f .0, over-image l N (f .1))) (λ A b. b) (r .chain));
     }
 
 module _ {F : Line → Type 0} {Top Bot : Point → Type 0} {T : ℤ} (laws : Laws F Top Bot T) (N : Point) (late : T ≤ℤ N .t) where
-  pub dropped : (xs : List Point) (f s : Line) → Chain (λ l. F (negL l)) (λ A. Bot (negP A)) (negL f) (negs xs) (negL s) → pos 0 ≤ℤ gap f N → gap s N <ℤ pos 0 → Dropped F Top Bot N (dropOver N xs) s
+  pub dropped : (xs : List Point) (f s : Line) → Chain (λ l. F (negL l)) (λ A. Bot (negP A)) (negL f) (negs xs) (negL s) → pos 0 ≤ℤ gap f N → gap s N <ℤ pos 0
+      → Dropped F Bot N (dropOver N xs) s
   dropped xs f s c h k =
-      dropped-of laws N (dropOver N xs) s (subst (λ ys. DroppedUnder (λ l. F (negL l)) (λ A. Bot (negP A)) (negP N) ys (negL s)) (dropUnder-neg N xs) (dropped-under (mirror-laws laws) (negP N) late c (neg-over f N h) (neg-below s N k)))
+      dropped-of N (dropOver N xs) s (subst (λ ys. DroppedUnder (λ l. F (negL l)) (λ A. Bot (negP A)) (negP N) ys (negL s)) (dropUnder-neg N xs) (dropped-under (mirror-laws laws) (negP N) late c (neg-over f N h) (neg-below s N k)))

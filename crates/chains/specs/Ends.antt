@@ -2,23 +2,21 @@
 --
 --     H r, L r                     the high end of range r, the point (time, high), and its low end, (time, low)
 --     under-H, over-L, fits-range  a line fits a range exactly when it is not above H and not below L
---     on-high, on-low              a line that touches H or L fits
+--     on-value                     a line through a value between low and high fits
 --     mean-fits                    a weighted mean of lines that fit some ranges fits them
 --     time<, time≤, un-time<       the order of times as natural numbers and as whole numbers
---     through-ends                 the line through two ends as definitions writes it
 --
 -- Assumes nothing.
-use mathlib.Core.Path.{_≡_, sym}
+use mathlib.Core.Path.{_≡_}
 use mathlib.Core.List.{List, [], _∷_}
 use Prim.Native.Nat.{ℕ, _<_, _≤_}
 use lib.IntN.{ℤ, pos, negsuc, _+ℤ_, _-ℤ_, _*ℤ_}
 use lib.Signed.{_≤ℤ_, _<ℤ_}
 use Rattle.integers.specs.Parts.{ints}
-use Rattle.integers.specs.OrderLaws.{≤ℤ-of-≡}
 use Rattle.integers.specs.RingSolver.{lit}
 use Rattle.integers.specs.Certificates.{hyp, num, eqn, _⊞_, _⊠_}
-use Rattle.integers.specs.Lists.{All-imp₂}
 use Rattle.integers.specs.Solve.{claims, certify!, certify-from! }
+use Rattle.integers.specs.Lists.{All-imp₂}
 use Rattle.definitions.specs.Ranges.{Range}
 use Rattle.definitions.specs.Lines.{Line, reading}
 use Rattle.definitions.specs.Fit.{FitsRange, InFit}
@@ -55,12 +53,8 @@ touch-over l t u v = certify! (l .p ∷ l .q ∷ l .d ∷ t ∷ u ∷ v ∷ []) 
 touch-under : (l : Line) (t u v : ℤ) → pos 0 <ℤ l .d → l .p *ℤ t +ℤ l .q -ℤ l .d *ℤ u ≡ pos 0 → u ≤ℤ v → (l .p *ℤ t +ℤ l .q -ℤ l .d *ℤ v) ≤ℤ pos 0
 touch-under l t u v = certify! (l .p ∷ l .q ∷ l .d ∷ t ∷ u ∷ v ∷ []) (search claims depth 40) (num 1) (hyp 0 ⊠ hyp 2 ⊞ eqn 1 (lit (pos 1))) tt
 
-module _ (l : Line) (r : Range) (valid : r .low ≤ℤ r .high) (d-over : pos 0 <ℤ l .d) where
-  pub on-high : Touches l (H r) → FitsRange l r
-  on-high e = fits-range (touch-over l (pos (r .time)) (r .low) (r .high) d-over e valid) (≤ℤ-of-≡ e)
-
-  pub on-low : Touches l (L r) → FitsRange l r
-  on-low e = fits-range (≤ℤ-of-≡ (sym e)) (touch-under l (pos (r .time)) (r .low) (r .high) d-over e valid)
+pub on-value : (l : Line) (r : Range) (u : ℤ) → r .low ≤ℤ u → u ≤ℤ r .high → pos 0 <ℤ l .d → Touches l (record { t = pos (r .time); u = u }) → FitsRange l r
+on-value l r u a b d-over e = fits-range (touch-over l (pos (r .time)) (r .low) u d-over e a) (touch-under l (pos (r .time)) u (r .high) d-over e b)
 
 -- ---- a mean fits
 module _ (l v w : Line) (c α β : ℤ) where

@@ -4,6 +4,7 @@
 --     mirror-laws          the mirror image of such a set is one
 --     TopThenBottom        the line touches a point of Top and a later point of Bot: what is true of slow
 --     BottomThenTop        it touches a point of Bot and a later point of Top: what is true of fast. It is the mirror image's TopThenBottom
+--     bottom-top           such a line, from its two points
 --     slowest, lowest      the least slope; from T on the least value
 --     fastest, highest     the greatest
 --     slowest-only, fastest-only   no other line has that slope
@@ -21,7 +22,7 @@ use Rattle.integers.specs.Solve.{claims, certify! }
 use Rattle.definitions.specs.Lines.{Line}
 use Rattle.definitions.specs.Fit.{SameLine}
 use Rattle.chains.specs.Points.{Point, gap, Touches, SlopeAtMost, Below, Mean, under-below, over-below, rising, beyond, same-touching}
-use Rattle.chains.specs.Mirror.{negP, negL, negL-negL, un-under, un-over, un-slope≤, un-below, neg-mean, neg-slope≤, un-same}
+use Rattle.chains.specs.Mirror.{negP, negL, negL-negL, un-under, un-over, un-slope≤, un-below, neg-mean, neg-slope≤, un-same, neg-touches, negP-negP}
 
 pub record Laws (F : Line → Type 0) (Top Bot : Point → Type 0) (T : ℤ) : Type 0 where
   pub positive : (l : Line) → F l → pos 0 <ℤ l .d
@@ -54,6 +55,18 @@ pub record TopThenBottom (Top Bot : Point → Type 0) (l : Line) : Type 0 where
 abbrev pub BottomThenTop : (Top Bot : Point → Type 0) → Line → Type 0
 BottomThenTop Top Bot l = TopThenBottom (λ A. Bot (negP A)) (λ A. Top (negP A)) (negL l)
 
+pub bottom-top : (Top Bot : Point → Type 0) (l : Line) (A B : Point) → Bot A → Top B → A .t <ℤ B .t → Touches l A → Touches l B → BottomThenTop Top Bot l
+bottom-top Top Bot l A B a b rise on-a on-b =
+    record {
+      first = negP A;
+      second = negP B;
+      top = subst Bot (sym (negP-negP A)) a;
+      bot = subst Top (sym (negP-negP B)) b;
+      rise = rise;
+      on-first = neg-touches l A on-a;
+      on-second = neg-touches l B on-b;
+    }
+
 -- ---- s touches A and the later B; l is at or under A, at or over B
 not-above : (s l : Line) (N : Point) → pos 0 <ℤ l .d → pos 0 <ℤ s .d → Below s l (N .t) → pos 0 <ℤ gap s N → gap l N ≤ℤ pos 0 → ⊥
 not-above s l N =
@@ -71,7 +84,8 @@ module _ (s l : Line) (A B : Point) (s-over : pos 0 <ℤ s .d) (l-over : pos 0 <
   closed N le = not-above s l N l-over s-over (lower (N .t) le)
 
 -- a parallel of s that is over B is over A
-parallel : (l s : Line) (A B : Point) → pos 0 <ℤ s .d → pos 0 <ℤ l .d → A .t <ℤ B .t → l .p *ℤ s .d ≡ s .p *ℤ l .d → Touches s A → Touches s B → pos 0 ≤ℤ gap l B → pos 0 ≤ℤ gap l A
+parallel : (l s : Line) (A B : Point) → pos 0 <ℤ s .d → pos 0 <ℤ l .d → A .t <ℤ B .t → l .p *ℤ s .d ≡ s .p *ℤ l .d → Touches s A → Touches s B → pos 0 ≤ℤ gap l B
+    → pos 0 ≤ℤ gap l A
 parallel l s A B =
     certify! (l .p ∷ l .q ∷ l .d ∷ s .p ∷ s .q ∷ s .d ∷ A .t ∷ A .u ∷ B .t ∷ B .u ∷ []) (search claims depth 60)
     (hyp 0) (hyp 0 ⊠ hyp 6 ⊞ eqn 3 (lit (negsuc 0) :* var 6 :+ var 8) ⊞ eqn 4 (lit (negsuc 0) :* var 2) ⊞ eqn 5 (var 2)) tt

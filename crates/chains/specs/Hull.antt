@@ -77,7 +77,8 @@ module _ (v w l : Line) (A : Point) where
       certify! (numbers v w l A) (search claims depth 60) (num 1)
       (hyp 2 ⊠ hyp 3 ⊞ eqn 0 (lit (negsuc 0) :* var 3 :* var 8 :+ var 5 :* var 6) ⊞ eqn 1 (var 0 :* var 8 :+ lit (negsuc 0) :* var 2 :* var 6)) tt
 
-two-here : {P : Line → Type 0} (v w l : Line) (A : Point) → P v → P w → Touches v A → Touches w A → SlopeBelow v w → gap l A ≤ℤ pos 0 → SlopeAtMost v l → SlopeAtMost l w → Two P l
+two-here : {P : Line → Type 0} (v w l : Line) (A : Point) → P v → P w → Touches v A → Touches w A → SlopeBelow v w → gap l A ≤ℤ pos 0 → SlopeAtMost v l → SlopeAtMost l w
+    → Two P l
 two-here v w l A pv pw a b s h i j =
     record {
       a = v;
@@ -125,7 +126,8 @@ record Beneath (ls : List Line) (l : Line) : Type 0 where
 pairWeights : {ls : List Line} {a b : Line} (α β : ℤ) → pos 0 ≤ℤ α → pos 0 ≤ℤ β → In a ls → In b ls → Weights ls
 pairWeights α β h k i j = mixWeights α β h k (oneWeight i) (oneWeight j)
 
-weighted-pair : (f : Line → ℤ) {ls : List Line} {a b : Line} (α β : ℤ) (h : pos 0 ≤ℤ α) (k : pos 0 ≤ℤ β) (i : In a ls) (j : In b ls) → weighted f (pairWeights α β h k i j) ≡ α *ℤ f a +ℤ β *ℤ f b
+weighted-pair : (f : Line → ℤ) {ls : List Line} {a b : Line} (α β : ℤ) (h : pos 0 ≤ℤ α) (k : pos 0 ≤ℤ β) (i : In a ls) (j : In b ls)
+    → weighted f (pairWeights α β h k i j) ≡ α *ℤ f a +ℤ β *ℤ f b
 unfolding pairWeights
 weighted-pair f α β h k i j = weighted-mix f α β h k (oneWeight i) (oneWeight j) ∙ ap₂ (λ x y. α *ℤ x +ℤ β *ℤ y) (weighted-one f i) (weighted-one f j)
 

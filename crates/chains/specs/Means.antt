@@ -47,7 +47,8 @@ total-is (more {l} w h ws) ps = ap₂ (λ x y. x +ℤ y) (natural-is w (l .d) h 
 sum-more : (W w d x n e t : ℤ) → W ≡ w *ℤ d → n ≡ e *ℤ t → W *ℤ x *ℤ e +ℤ n *ℤ d ≡ (d *ℤ e) *ℤ (w *ℤ x +ℤ t)
 sum-more W w d x n e t = certify! (W ∷ w ∷ d ∷ x ∷ n ∷ e ∷ t ∷ []) (search claims depth 60) (num 1) (eqn 0 (var 3 :* var 5) ⊞ eqn 1 (var 2)) tt
 
-sum-is : (f : Line → ℤ) {ls : List Line} (ws : Weights ls) → Positive ls → weightedSum f (naturalWeights ws) ls .num ≡ weightedSum f (naturalWeights ws) ls .den *ℤ weighted f ws
+sum-is : (f : Line → ℤ) {ls : List Line} (ws : Weights ls) → Positive ls
+    → weightedSum f (naturalWeights ws) ls .num ≡ weightedSum f (naturalWeights ws) ls .den *ℤ weighted f ws
 unfolding naturalWeights weightedSum
 sum-is f none ps = refl
 sum-is f (more {l} {ls} w h ws) ps =
@@ -75,7 +76,8 @@ module _ {ls : List Line} {l : Line} (ps : Positive ls) (l-over : pos 0 <ℤ l .
   weighted-mean = record { weights = naturalWeights (m .weights); mean = mean-of-whole }
 
 -- ---- strictly between, from fractions to whole lines
-between-eq : (a b x y z i k d : ℤ) → (a *ℤ x *ℤ (k *ℤ pos 1) +ℤ (b *ℤ y *ℤ pos 1 +ℤ pos 0 *ℤ k) *ℤ i) *ℤ d ≡ (a +ℤ (b +ℤ pos 0)) *ℤ z *ℤ (i *ℤ (k *ℤ pos 1)) → ((a +ℤ b) *ℤ i *ℤ k) *ℤ z ≡ (a *ℤ k *ℤ d) *ℤ x +ℤ (b *ℤ i *ℤ d) *ℤ y
+between-eq : (a b x y z i k d : ℤ) → (a *ℤ x *ℤ (k *ℤ pos 1) +ℤ (b *ℤ y *ℤ pos 1 +ℤ pos 0 *ℤ k) *ℤ i) *ℤ d ≡ (a +ℤ (b +ℤ pos 0)) *ℤ z *ℤ (i *ℤ (k *ℤ pos 1))
+    → ((a +ℤ b) *ℤ i *ℤ k) *ℤ z ≡ (a *ℤ k *ℤ d) *ℤ x +ℤ (b *ℤ i *ℤ d) *ℤ y
 between-eq a b x y z i k d = certify! (a ∷ b ∷ x ∷ y ∷ z ∷ i ∷ k ∷ d ∷ []) (search claims depth 80) (num 1) (eqn 0 (lit (negsuc 0))) tt
 
 between-d : (a b i k d : ℤ) → ((a +ℤ b) *ℤ i *ℤ k) *ℤ d ≡ (a *ℤ k *ℤ d) *ℤ i +ℤ (b *ℤ i *ℤ d) *ℤ k
@@ -125,7 +127,8 @@ eq-dec x y = by (≤ℤ-or-<ℤ x y) (≤ℤ-or-<ℤ y x)
 pub same-dec : (k l : Line) → SameLine k l ⊎ (SameLine k l → ⊥)
 same-dec k l = by (eq-dec (k .p *ℤ l .d) (l .p *ℤ k .d)) (eq-dec (k .q *ℤ l .d) (l .q *ℤ k .d))
   where
-    by : (k .p *ℤ l .d ≡ l .p *ℤ k .d) ⊎ (k .p *ℤ l .d ≡ l .p *ℤ k .d → ⊥) → (k .q *ℤ l .d ≡ l .q *ℤ k .d) ⊎ (k .q *ℤ l .d ≡ l .q *ℤ k .d → ⊥) → SameLine k l ⊎ (SameLine k l → ⊥)
+    by : (k .p *ℤ l .d ≡ l .p *ℤ k .d) ⊎ (k .p *ℤ l .d ≡ l .p *ℤ k .d → ⊥) → (k .q *ℤ l .d ≡ l .q *ℤ k .d) ⊎ (k .q *ℤ l .d ≡ l .q *ℤ k .d → ⊥)
+        → SameLine k l ⊎ (SameLine k l → ⊥)
     by (inl e) (inl f) = inl (record { slope = e; intercept = f })
     by (inl e) (inr f) = inr (λ s. f (s .intercept))
     by (inr e) f = inr (λ s. e (s .slope))
@@ -162,7 +165,8 @@ module _ {rs : List Range} {l : Line} where
   unfolding naturalWeights whole-of
   corner-of c = record { fits = c .fit; sharp = λ a b g α β fa fb m h k. first-same a b g α β fa fb m h k (same-dec a l) (same-dec b l) }
     where
-      between : (a b : Line) (g α β : ℤ) → InFit rs a → InFit rs b → Mean l g a α b β → pos 0 <ℤ α → pos 0 <ℤ β → (SameLine a l → ⊥) → (SameLine b l → ⊥) → StrictlyBetween a b l
+      between : (a b : Line) (g α β : ℤ) → InFit rs a → InFit rs b → Mean l g a α b β → pos 0 <ℤ α → pos 0 <ℤ β → (SameLine a l → ⊥) → (SameLine b l → ⊥)
+          → StrictlyBetween a b l
       between a b g α β fa fb m h k na nb =
           record {
             first = natAbs (α *ℤ a .d);
@@ -174,7 +178,8 @@ module _ {rs : List Range} {l : Line} where
             not-second = nb;
           }
 
-      first-same : (a b : Line) (g α β : ℤ) → InFit rs a → InFit rs b → Mean l g a α b β → pos 0 <ℤ α → pos 0 <ℤ β → SameLine a l ⊎ (SameLine a l → ⊥) → SameLine b l ⊎ (SameLine b l → ⊥) → SameLine a l
+      first-same : (a b : Line) (g α β : ℤ) → InFit rs a → InFit rs b → Mean l g a α b β → pos 0 <ℤ α → pos 0 <ℤ β → SameLine a l ⊎ (SameLine a l → ⊥)
+          → SameLine b l ⊎ (SameLine b l → ⊥) → SameLine a l
       first-same a b g α β fa fb m h k (inl s) d = s
       first-same a b g α β fa fb m h k (inr na) (inl s) =
           record {

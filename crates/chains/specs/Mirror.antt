@@ -7,7 +7,7 @@
 --     gap-neg                        the image of the line is as far below the image of the point as the line is above the point
 --     neg-touches, neg-under, neg-over, neg-below   from a line and a point to their images
 --     un-under, un-over              back
---     image-touches, image-under, image-over        the image of a line against a point is the line against the image of the point
+--     image-touches, over-image                     the image of a line against a point is the line against the image of the point
 --     neg-slope<, un-slope<, neg-slope≤, un-slope≤, un-below, neg-same, un-same   slopes and values of images
 --     neg-mean                       a mean of images
 --     neg-<, neg-<-flip              of two numbers
@@ -90,12 +90,6 @@ module _ (l : Line) (A : Point) where
   -- the image of the line, the image of the point
   pub image-touches : Touches (negL l) A → Touches l (negP A)
   image-touches = certify! (l .p ∷ l .q ∷ l .d ∷ A .t ∷ A .u ∷ []) (search claims depth 40) (num 1) (eqn 0 (lit (negsuc 0))) tt
-
-  pub image-under : gap (negL l) A ≤ℤ pos 0 → pos 0 ≤ℤ gap l (negP A)
-  image-under = certify! (l .p ∷ l .q ∷ l .d ∷ A .t ∷ A .u ∷ []) (search claims depth 40) (num 1) (hyp 0) tt
-
-  pub image-over : pos 0 ≤ℤ gap (negL l) A → gap l (negP A) ≤ℤ pos 0
-  image-over = certify! (l .p ∷ l .q ∷ l .d ∷ A .t ∷ A .u ∷ []) (search claims depth 40) (num 1) (hyp 0) tt
 
   pub over-image : pos 0 ≤ℤ gap l (negP A) → gap (negL l) A ≤ℤ pos 0
   over-image = certify! (l .p ∷ l .q ∷ l .d ∷ A .t ∷ A .u ∷ []) (search claims depth 40) (num 1) (hyp 0) tt

@@ -10,7 +10,7 @@
 --     Mean l c v α w β             c·l = α·v + β·w, with c above 0 and α, β not below 0: l is a weighted mean of v and w
 --
 --     through-first, through-second, through-mean, through-steeper   of the line through two points
---     same-line, same-touching, touches-too                          when two lines are the same line
+--     same-refl, same-line, same-touching, touches-too               when two lines are the same line
 --     rising, beyond                 a line that another one overtakes between two times: the slopes, and the values from then on
 --     earlier-under, earlier-over, steeper-on, steeper-over, stays-over   of two lines through one point A and a point N: the order of A and N in time, of the slopes, and of the values at N
 --     below-over, below-under        a point at which l is at most as high as m: where l is over it m is, where m is under it l is
@@ -19,7 +19,7 @@
 --
 -- A line is compared with a point by whole numbers alone, never by dividing. All comparisons rest on one identity of a linear g, (b − a)·g(c) = (c − a)·g(b) − (c − b)·g(a), taken at the difference of two lines.
 -- Assumes nothing.
-use mathlib.Core.Path.{_≡_}
+use mathlib.Core.Path.{_≡_, refl}
 use mathlib.Core.List.{List, [], _∷_}
 use lib.IntN.{ℤ, pos, negsuc, negℤ, _+ℤ_, _-ℤ_, _*ℤ_}
 use lib.Signed.{_≤ℤ_, _<ℤ_}
@@ -103,6 +103,9 @@ module _ (l m : Line) (a b : ℤ) where
       certify! (l .p ∷ l .q ∷ l .d ∷ m .p ∷ m .q ∷ m .d ∷ a ∷ b ∷ c ∷ []) (search claims depth 60) (hyp 0) (hyp 0 ⊠ hyp 3 ⊞ hyp 1 ⊠ hyp 2 ⊞ hyp 1 ⊠ hyp 3) tt
 
 -- ---- when two lines are the same line
+pub same-refl : (l : Line) → SameLine l l
+same-refl l = record { slope = refl; intercept = refl }
+
 module _ (l m : Line) (A B : Point) where
   same-slope : A .t <ℤ B .t → Touches l A → Touches l B → Touches m A → Touches m B → l .p *ℤ m .d ≡ m .p *ℤ l .d
   same-slope =

@@ -50,7 +50,8 @@ Popped N A [] = Unit {0}
 Popped N A (B ∷ ys) = pos 0 ≤ℤ gap (through A B) N
 
 -- ---- on a chain that is the list that is kept
-chain-tail : {F : Line → Type 0} {Top : Point → Type 0} {v w : Line} {A B : Point} {xs : List Point} → Chain F Top v (A ∷ B ∷ xs) w → Bend F Top v A (through A B) × Chain F Top (through A B) (B ∷ xs) w
+chain-tail : {F : Line → Type 0} {Top : Point → Type 0} {v w : Line} {A B : Point} {xs : List Point} → Chain F Top v (A ∷ B ∷ xs) w
+    → Bend F Top v A (through A B) × Chain F Top (through A B) (B ∷ xs) w
 chain-tail (next b lt c) = (b, c)
 
 keep-off : (g : ℤ) (ys : List Point) → pos 0 ≤ℤ g → keepUnderIf g ys ≡ []
@@ -65,7 +66,8 @@ keep-on (pos n) ys h = absurd (not-below n h)
 keep-on (negsuc n) ys h = refl
 
 module _ {F : Line → Type 0} {Top Bot : Point → Type 0} {T : ℤ} (laws : Laws F Top Bot T) (N : Point) (late : T ≤ℤ N .t) where
-  last-over : (A B : Point) (xs ys : List Point) {w : Line} → Chain F Top (through A B) (B ∷ (xs ++ ys)) w → pos 0 ≤ℤ gap (through A B) N → pos 0 ≤ℤ gap (lastLine A B xs) N
+  last-over : (A B : Point) (xs ys : List Point) {w : Line} → Chain F Top (through A B) (B ∷ (xs ++ ys)) w → pos 0 ≤ℤ gap (through A B) N
+      → pos 0 ≤ℤ gap (lastLine A B xs) N
   last-over A B [] ys c h = h
   last-over A B (C ∷ xs) ys c h =
       let t = chain-tail c in
@@ -73,7 +75,8 @@ module _ {F : Line → Type 0} {Top Bot : Point → Type 0} {T : ℤ} (laws : La
       last-over B C xs ys (t .1)
       (stays-over (through A B) (through B C) B N (b .before) (b .after) (≤ℤ-trans (laws .top-early B (b .top)) late) (laws .positive _ (b .fits)) (laws .positive _ (first-fits (t .1))) (b .turns) h)
 
-  kept-after : (A : Point) (xs ys : List Point) {v w : Line} → Chain F Top v (A ∷ (xs ++ ys)) w → Stops N A xs → Popped N (lastFrom A xs) ys → keepUnderAfter N A (xs ++ ys) ≡ xs
+  kept-after : (A : Point) (xs ys : List Point) {v w : Line} → Chain F Top v (A ∷ (xs ++ ys)) w → Stops N A xs → Popped N (lastFrom A xs) ys
+      → keepUnderAfter N A (xs ++ ys) ≡ xs
   kept-after A [] [] c s o = refl
   kept-after A [] (B ∷ ys) c s o = keep-off (gap (through A B) N) (B ∷ keepUnderAfter N B ys) o
   kept-after A (B ∷ xs) ys c s o =
@@ -131,7 +134,8 @@ unfolding trim
 pops N B [] gone o = record { start = B; more = []; gone = gone; is = refl; whole = refl; stops = tt; over = o }
 pops N B (A ∷ ys) gone o = by (gap (through A B) N) refl (λ k. pops N A ys (B ∷ gone) k)
   where
-    by : (g : ℤ) → gap (through A B) N ≡ g → (pos 0 ≤ℤ gap (through A B) N → Pops N (reverseAux (A ∷ ys) (B ∷ gone)) (reverse (trim N (A ∷ ys)))) → Pops N (reverseAux (B ∷ (A ∷ ys)) gone) (reverse (trimIf g (trim N (A ∷ ys)) (B ∷ (A ∷ ys))))
+    by : (g : ℤ) → gap (through A B) N ≡ g → (pos 0 ≤ℤ gap (through A B) N → Pops N (reverseAux (A ∷ ys) (B ∷ gone)) (reverse (trim N (A ∷ ys))))
+        → Pops N (reverseAux (B ∷ (A ∷ ys)) gone) (reverse (trimIf g (trim N (A ∷ ys)) (B ∷ (A ∷ ys))))
     by (pos n) e r = r (pos≥0 _ n e)
     by (negsuc n) e r =
         let two : reverse (B ∷ (A ∷ ys)) ≡ reverse ys ++ (A ∷ B ∷ []) = reverseAux-eq ys (A ∷ B ∷ []) in

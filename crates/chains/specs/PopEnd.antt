@@ -1,13 +1,12 @@
 -- The step as code does it: the upper chain is popped from its end. On a polygon that keeps the invariant it is the step of `State`, `Spot` and `Run`.
 --
---     cutWith ks N x, spotWith ks N x   the cut at N and the lines through N, with ks left of the upper chain
 --     popAbove, popBelow, popSpot, popJoin   cutAbove, cutBelow, spot and join, with popEnd for keepUnder
 --     above-same, below-same, spot-same, join-same   they are the same on a state
 --
 -- The code's contracts are equations with these, and so none of them asks for the invariant.
 -- Assumes nothing.
 use mathlib.Core.Path.{_≡_, refl, _∙_, ap}
-use mathlib.Core.List.{List, [], _∷_}
+use mathlib.Core.List.{List}
 use mathlib.Core.Logic.{inl}
 use Prim.Native.Nat.{ℕ, zero, suc, _<_}
 use lib.IntN.{ℤ, pos, negsuc, _-ℤ_}
@@ -17,67 +16,29 @@ use Rattle.definitions.specs.Ranges.{Range}
 use Rattle.definitions.specs.Lines.{Line}
 use Rattle.definitions.specs.Fit.{InFit}
 use Rattle.chains.specs.Signs.{negsuc<0, suc>0}
-use Rattle.chains.specs.Points.{Point, gap, through, turn}
+use Rattle.chains.specs.Points.{Point, gap}
 use Rattle.chains.specs.Mirror.{negP}
 use Rattle.chains.specs.Ends.{H, L, time<}
 use Rattle.chains.specs.Extremes.{Laws, mirror-laws}
-use Rattle.chains.specs.Chain.{lastOf, headOf, mirrorPolygon, Polygon}
-use Rattle.chains.specs.Cut.{dropOver, Under, With, under-laws}
-use Rattle.chains.specs.Step.{pushIf}
-use Rattle.chains.specs.State.{Single, State, same-under, cutAbove, cutFast, cutSlow, cutBelow, state-mirror, cut-above, one-line, with-chains}
-use Rattle.chains.specs.Spot.{spot, spotSlow, spotFast}
-use Rattle.chains.specs.Run.{TopOf, BotOf, Until, RunState, run-laws, join, joinIf}
+use Rattle.chains.specs.Chain.{mirrorPolygon, Polygon}
+use Rattle.chains.specs.Cut.{Under, With, under-laws, keepUnder}
+use Rattle.chains.specs.Step.{cutWith}
+use Rattle.chains.specs.State.{Single, State, same-under, cutAbove, cutFast, cutSlow, cutBelow, state-mirror, cut-above, one-line, with-chains, cutAboveBy, cutBelowBy}
+use Rattle.chains.specs.Spot.{spot, spotSlow, spotFast, spotBy, spotWith}
+use Rattle.chains.specs.Run.{TopOf, BotOf, Until, RunState, run-laws, join, joinIf, joinBy}
 use Rattle.chains.specs.Pop.{pop-keep, popEnd}
 
--- ---- the cuts by popping from the end
-abbrev pub cutWith : List Point → Point → Polygon → Polygon
-cutWith ks N x =
-    record {
-      upper = pushIf (turn (through (lastOf ks) N) (through (headOf (dropOver N (x .lower))) N)) ks N;
-      lower = dropOver N (x .lower);
-      slow = x .slow;
-      fast = through (headOf (dropOver N (x .lower))) N;
-    }
-
-abbrev pub popSlow : ℤ → Point → Polygon → Polygon
-popSlow (pos n) N x = record { upper = x .upper; lower = x .lower; slow = x .slow; fast = x .slow }
-popSlow (negsuc n) N x = cutWith (popEnd N (x .upper)) N x
-
-abbrev pub popFast : ℤ → Point → Polygon → Polygon
-popFast (pos zero) N x = x
-popFast (pos (suc n)) N x = popSlow (gap (x .slow) N) N x
-popFast (negsuc n) N x = x
-
 unfoldable pub popAbove : Point → Polygon → Polygon
-popAbove N x = popFast (gap (x .fast) N) N x
+popAbove N x = cutAboveBy popEnd N x
 
 unfoldable pub popBelow : Point → Polygon → Polygon
-popBelow N x = mirrorPolygon (popAbove (negP N) (mirrorPolygon x))
-
-abbrev pub spotWith : List Point → Point → Polygon → Polygon
-spotWith ks N x =
-    record { upper = N ∷ []; lower = N ∷ []; slow = through (lastOf ks) N; fast = through (headOf (dropOver N (x .lower))) N }
-
-abbrev pub popSpotFast : ℤ → Point → Polygon → Polygon
-popSpotFast (pos zero) N x = record { upper = x .upper; lower = x .lower; slow = x .fast; fast = x .fast }
-popSpotFast (pos (suc n)) N x = spotWith (popEnd N (x .upper)) N x
-popSpotFast (negsuc n) N x = x
-
-abbrev pub popSpotSlow : ℤ → Point → Polygon → Polygon
-popSpotSlow (pos n) N x = record { upper = x .upper; lower = x .lower; slow = x .slow; fast = x .slow }
-popSpotSlow (negsuc n) N x = popSpotFast (gap (x .fast) N) N x
+popBelow N x = cutBelowBy popEnd N x
 
 unfoldable pub popSpot : Point → Polygon → Polygon
-popSpot N x = popSpotSlow (gap (x .slow) N) N x
+popSpot N x = spotBy popEnd N x
 
-abbrev pub popJoinIf : ℤ → Range → Polygon → Polygon
-popJoinIf (pos zero) r x = popSpot (H r) x
-popJoinIf (pos (suc n)) r x = popBelow (L r) (popAbove (H r) x)
-popJoinIf (negsuc n) r x = x
-
--- one more range, by popping from the end
 unfoldable pub popJoin : Range → Polygon → Polygon
-popJoin r x = popJoinIf (r .high -ℤ r .low) r x
+popJoin r x = joinBy popEnd r x
 
 -- ---- on a state they are the model's
 module _ {F : Line → Type 0} {Top Bot : Point → Type 0} {T : ℤ} (laws : Laws F Top Bot T) (N : Point) (late : T ≤ℤ N .t) where
@@ -88,12 +49,12 @@ module _ {F : Line → Type 0} {Top Bot : Point → Type 0} {T : ℤ} (laws : La
   unfolding popAbove
   above-same x z = by (gap (x .fast) N) refl
     where
-      inner : State F Top Bot x → pos 0 <ℤ gap (x .fast) N → (g : ℤ) → gap (x .slow) N ≡ g → popSlow g N x ≡ cutSlow g N x
+      inner : State F Top Bot x → pos 0 <ℤ gap (x .fast) N → (g : ℤ) → gap (x .slow) N ≡ g → cutSlow popEnd g N x ≡ cutSlow keepUnder g N x
       inner z k (pos n) e = refl
       inner (with-chains c) k (negsuc n) e = ap (λ ks. cutWith ks N x) (pop-keep laws N late (c .up))
       inner (one-line o) k (negsuc n) e = absurd (no-single x o (negsuc<0 _ n e) k)
 
-      by : (g : ℤ) → gap (x .fast) N ≡ g → popFast g N x ≡ cutFast g N x
+      by : (g : ℤ) → gap (x .fast) N ≡ g → cutFast popEnd g N x ≡ cutFast keepUnder g N x
       by (pos zero) e = refl
       by (pos (suc n)) e = inner z (suc>0 _ n e) (gap (x .slow) N) refl
       by (negsuc n) e = refl
@@ -102,23 +63,25 @@ module _ {F : Line → Type 0} {Top Bot : Point → Type 0} {T : ℤ} (laws : La
   unfolding popSpot
   spot-same x z = by (gap (x .slow) N) refl
     where
-      inner : State F Top Bot x → gap (x .slow) N <ℤ pos 0 → (g : ℤ) → gap (x .fast) N ≡ g → popSpotFast g N x ≡ spotFast g N x
+      inner : State F Top Bot x → gap (x .slow) N <ℤ pos 0 → (g : ℤ) → gap (x .fast) N ≡ g → spotFast popEnd g N x ≡ spotFast keepUnder g N x
       inner z k (pos zero) e = refl
       inner (with-chains c) k (pos (suc n)) e = ap (λ ks. spotWith ks N x) (pop-keep laws N late (c .up))
       inner (one-line o) k (pos (suc n)) e = absurd (no-single x o k (suc>0 _ n e))
       inner z k (negsuc n) e = refl
 
-      by : (g : ℤ) → gap (x .slow) N ≡ g → popSpotSlow g N x ≡ spotSlow g N x
+      by : (g : ℤ) → gap (x .slow) N ≡ g → spotSlow popEnd g N x ≡ spotSlow keepUnder g N x
       by (pos n) e = refl
       by (negsuc n) e = inner z (negsuc<0 _ n e) (gap (x .fast) N) refl
 
-pub below-same : {F : Line → Type 0} {Top Bot : Point → Type 0} {T : ℤ} → Laws F Top Bot T → (N : Point) → T ≤ℤ N .t → (x : Polygon) → State F Top Bot x → popBelow N x ≡ cutBelow N x
-unfolding popBelow
+pub below-same : {F : Line → Type 0} {Top Bot : Point → Type 0} {T : ℤ} → Laws F Top Bot T → (N : Point) → T ≤ℤ N .t → (x : Polygon) → State F Top Bot x
+    → popBelow N x ≡ cutBelow N x
+unfolding popAbove popBelow
 below-same laws N late x z = ap mirrorPolygon (above-same (mirror-laws laws) (negP N) late (mirrorPolygon x) (state-mirror x z))
 
 -- a range that joins: the join by popping from the end is the model's
-pub join-same : (rs : List Range) (T : ℕ) → Until rs T → (r : Range) → T < r .time → r .low ≤ℤ r .high → (x : Polygon) → RunState rs x → gap (x .slow) (H r) ≤ℤ pos 0 → popJoin r x ≡ join r x
-unfolding popJoin
+pub join-same : (rs : List Range) (T : ℕ) → Until rs T → (r : Range) → T < r .time → r .low ≤ℤ r .high → (x : Polygon) → RunState rs x → gap (x .slow) (H r) ≤ℤ pos 0
+    → popJoin r x ≡ join r x
+unfolding popAbove popBelow popSpot popJoin
 join-same rs T u r lt le x z h = by (r .high -ℤ r .low)
   where
     laws : Laws (InFit rs) (TopOf rs) (BotOf rs) (pos T)
@@ -130,7 +93,7 @@ join-same rs T u r lt le x z h = by (r .high -ℤ r .low)
     above : State (Under (InFit rs) (H r)) (With (TopOf rs) (H r)) (BotOf rs) (cutAbove (H r) x)
     above = cut-above laws (H r) late (λ B b. inl (≤ℤ-<ℤ-trans (laws .bot-early B b) (time< T (r .time) lt))) x z h
 
-    by : (g : ℤ) → popJoinIf g r x ≡ joinIf g r x
+    by : (g : ℤ) → joinIf popEnd g r x ≡ joinIf keepUnder g r x
     by (pos zero) = spot-same laws (H r) late x z
     by (pos (suc n)) =
         ap (popBelow (L r)) (above-same laws (H r) late x z) ∙ below-same (under-laws (H r) laws late) (L r) (≤ℤ-of-≡ refl) (cutAbove (H r) x) above

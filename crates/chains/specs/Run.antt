@@ -5,7 +5,7 @@
 --     Until rs T                 no range is later than T
 --     run-laws                   the fit of a run is a set of lines that the geometry takes
 --     RunState rs x              x is the polygon of the fit of rs
---     join r x                   one more range: the cut above at its high end and the cut below at its low end, or the lines through its one point
+--     join r x, joinBy           one more range: the cut above at its high end and the cut below at its low end, or the lines through its one point
 --     joined                     where slow is not above the new range and fast not below it, join has the polygon of the longer run
 --
 -- Assumes nothing.
@@ -25,9 +25,9 @@ use Rattle.chains.specs.Points.{Point, gap, Touches, through, through-se
 use Rattle.chains.specs.Ends.{H, L, under-H, over-L, fits-range, mean-fits, time<, time≤, touch-over}
 use Rattle.chains.specs.Extremes.{Laws}
 use Rattle.chains.specs.Chain.{headOf, Polygon}
-use Rattle.chains.specs.Cut.{Under, under-laws, dropOver}
-use Rattle.chains.specs.State.{State, state-map, state-fast, cutAbove, cutFast, cutSlow, cutBelow, cut-above, cut-below}
-use Rattle.chains.specs.Spot.{spot, spot-state}
+use Rattle.chains.specs.Cut.{Under, under-laws, dropOver, keepUnder}
+use Rattle.chains.specs.State.{State, state-map, state-fast, cutAbove, cutFast, cutSlow, cutBelow, cut-above, cut-below, Shorten, cutAboveBy, cutBelowBy}
+use Rattle.chains.specs.Spot.{spot, spot-state, spotBy}
 
 -- ---- the ends of a run's ranges
 -- A is the end P of one of the ranges
@@ -82,29 +82,34 @@ abbrev pub RunState : List Range → Polygon → Type 0
 RunState rs x = State (InFit rs) (TopOf rs) (BotOf rs) x
 
 -- ---- one more range
-abbrev pub joinIf : ℤ → Range → Polygon → Polygon
-joinIf (pos zero) r x = spot (H r) x
-joinIf (pos (suc n)) r x = cutBelow (L r) (cutAbove (H r) x)
-joinIf (negsuc n) r x = x
+abbrev pub joinIf : Shorten → ℤ → Range → Polygon → Polygon
+joinIf shorten (pos zero) r x = spotBy shorten (H r) x
+joinIf shorten (pos (suc n)) r x = cutBelowBy shorten (L r) (cutAboveBy shorten (H r) x)
+joinIf shorten (negsuc n) r x = x
+
+abbrev pub joinBy : Shorten → Range → Polygon → Polygon
+joinBy shorten r x = joinIf shorten (r .high -ℤ r .low) r x
 
 abbrev pub join : Range → Polygon → Polygon
-join r x = joinIf (r .high -ℤ r .low) r x
+join r x = joinBy keepUnder r x
 
 -- after the cut above, fast is still at or over the low end
-fast-over : (r : Range) (x : Polygon) → r .low ≤ℤ r .high → pos 0 <ℤ (cutAbove (H r) x) .fast .d → gap (x .slow) (H r) ≤ℤ pos 0 → pos 0 ≤ℤ gap (x .fast) (L r) → pos 0 ≤ℤ gap ((cutAbove (H r) x) .fast) (L r)
+fast-over : (r : Range) (x : Polygon) → r .low ≤ℤ r .high → pos 0 <ℤ (cutAbove (H r) x) .fast .d → gap (x .slow) (H r) ≤ℤ pos 0 → pos 0 ≤ℤ gap (x .fast) (L r)
+    → pos 0 ≤ℤ gap ((cutAbove (H r) x) .fast) (L r)
 fast-over r x le d h k = by (gap (x .fast) (H r)) d
   where
-    inner : (g : ℤ) → gap (x .slow) (H r) ≡ g → pos 0 <ℤ (cutSlow g (H r) x) .fast .d → pos 0 ≤ℤ gap ((cutSlow g (H r) x) .fast) (L r)
+    inner : (g : ℤ) → gap (x .slow) (H r) ≡ g → pos 0 <ℤ (cutSlow keepUnder g (H r) x) .fast .d → pos 0 ≤ℤ gap ((cutSlow keepUnder g (H r) x) .fast) (L r)
     inner (pos n) e d = touch-over (x .slow) (pos (r .time)) (r .low) (r .high) d (≤ℤ-antisym h (pos≥0 _ n e)) le
     inner (negsuc n) e d =
         touch-over (through (headOf (dropOver (H r) (x .lower))) (H r)) (pos (r .time)) (r .low) (r .high) d (through-second (headOf (dropOver (H r) (x .lower))) (H r)) le
 
-    by : (g : ℤ) → pos 0 <ℤ (cutFast g (H r) x) .fast .d → pos 0 ≤ℤ gap ((cutFast g (H r) x) .fast) (L r)
+    by : (g : ℤ) → pos 0 <ℤ (cutFast keepUnder g (H r) x) .fast .d → pos 0 ≤ℤ gap ((cutFast keepUnder g (H r) x) .fast) (L r)
     by (pos zero) d = k
     by (pos (suc n)) d = inner (gap (x .slow) (H r)) refl d
     by (negsuc n) d = k
 
-pub joined : (rs : List Range) (T : ℕ) → Until rs T → (r : Range) → T < r .time → r .low ≤ℤ r .high → (x : Polygon) → RunState rs x → gap (x .slow) (H r) ≤ℤ pos 0 → pos 0 ≤ℤ gap (x .fast) (L r) → RunState (r ∷ rs) (join r x)
+pub joined : (rs : List Range) (T : ℕ) → Until rs T → (r : Range) → T < r .time → r .low ≤ℤ r .high → (x : Polygon) → RunState rs x → gap (x .slow) (H r) ≤ℤ pos 0
+    → pos 0 ≤ℤ gap (x .fast) (L r) → RunState (r ∷ rs) (join r x)
 joined rs T u r lt le x z h k = by (r .high -ℤ r .low) refl
   where
     laws : Laws (InFit rs) (TopOf rs) (BotOf rs) (pos T)
@@ -139,7 +144,7 @@ joined rs T u r lt le x z h k = by (r .high -ℤ r .low) refl
         state-map (λ l f. all l (f .0 .0) (f .0 .1) (f .1)) (λ A a. a) (λ A a. a)
         (cut-below laws′ (L r) (≤ℤ-of-≡ refl) (apart w) (cutAbove (H r) x) above (fast-over r x le (laws′ .positive _ (state-fast (cutAbove (H r) x) above)) h k))
 
-    by : (g : ℤ) → r .high -ℤ r .low ≡ g → RunState (r ∷ rs) (joinIf g r x)
+    by : (g : ℤ) → r .high -ℤ r .low ≡ g → RunState (r ∷ rs) (joinIf keepUnder g r x)
     by (pos zero) e = one (diff-zero (r .high) (r .low) e)
     by (pos (suc n)) e = two (diff-pos (r .high) (r .low) (suc>0 _ n e))
     by (negsuc n) e = absurd (≤ℤ-<ℤ-⊥ le (diff-neg (r .high) (r .low) (negsuc<0 _ n e)))

@@ -77,11 +77,11 @@ above-sized {u} {l} N x s = by (gap (x .fast) N)
     same : Sized (u + 1) l x
     same = record { upper≤ = omega (arith, s .upper≤); lower≤ = s .lower≤ }
 
-    inner : (g : ℤ) → Sized (u + 1) l (cutSlow g N x)
+    inner : (g : ℤ) → Sized (u + 1) l (cutSlow keepUnder g N x)
     inner (pos n) = record { upper≤ = omega (arith, s .upper≤); lower≤ = s .lower≤ }
     inner (negsuc n) = cut-sized N x s
 
-    by : (g : ℤ) → Sized (u + 1) l (cutFast g N x)
+    by : (g : ℤ) → Sized (u + 1) l (cutFast keepUnder g N x)
     by (pos zero) = same
     by (pos (suc n)) = inner (gap (x .slow) N)
     by (negsuc n) = same
@@ -92,19 +92,19 @@ below-sized N x s = sized-mirror (cutAbove (negP N) (mirrorPolygon x)) (above-si
 spot-sized : {u l : ℕ} (N : Point) (x : Polygon) → Sized u l x → Sized (u + 1) (l + 1) (spot N x)
 spot-sized {u} {l} N x s = by (gap (x .slow) N)
   where
-    inner : (g : ℤ) → Sized (u + 1) (l + 1) (spotFast g N x)
+    inner : (g : ℤ) → Sized (u + 1) (l + 1) (spotFast keepUnder g N x)
     inner (pos zero) = record { upper≤ = omega (arith, s .upper≤); lower≤ = omega (arith, s .lower≤) }
     inner (pos (suc n)) = record { upper≤ = omega arith; lower≤ = omega arith }
     inner (negsuc n) = record { upper≤ = omega (arith, s .upper≤); lower≤ = omega (arith, s .lower≤) }
 
-    by : (g : ℤ) → Sized (u + 1) (l + 1) (spotSlow g N x)
+    by : (g : ℤ) → Sized (u + 1) (l + 1) (spotSlow keepUnder g N x)
     by (pos n) = record { upper≤ = omega (arith, s .upper≤); lower≤ = omega (arith, s .lower≤) }
     by (negsuc n) = inner (gap (x .fast) N)
 
 join-sized : {u l : ℕ} (r : Range) (x : Polygon) → Sized u l x → Sized (u + 1) (l + 1) (join r x)
 join-sized {u} {l} r x s = by (r .high -ℤ r .low)
   where
-    by : (g : ℤ) → Sized (u + 1) (l + 1) (joinIf g r x)
+    by : (g : ℤ) → Sized (u + 1) (l + 1) (joinIf keepUnder g r x)
     by (pos zero) = spot-sized (H r) x s
     by (pos (suc n)) = below-sized (L r) (cutAbove (H r) x) (above-sized (H r) x s)
     by (negsuc n) = record { upper≤ = omega (arith, s .upper≤); lower≤ = omega (arith, s .lower≤) }
@@ -139,7 +139,8 @@ module _ {F : Line → Type 0} {Top Bot : Point → Type 0} {T : ℤ} (laws : La
   list-count k o a b (with-chains c) = list-many (λ ls. length ls ≤ k + k) x (chain-slope laws (c .up)) (omega (arith, corners-count c))
   list-count k o a b (one-line z) = list-single (λ ls. length ls ≤ k + k) x (z .same) (omega arith)
 
-pub at-most : (r s : Range) (ws : List Range) (T : ℕ) → Until (runOf r s ws) T → RunState (runOf r s ws) (polygonOf r s ws) → length (listOf (polygonOf r s ws)) ≤ 2 * (length ws + 2)
+pub at-most : (r s : Range) (ws : List Range) (T : ℕ) → Until (runOf r s ws) T → RunState (runOf r s ws) (polygonOf r s ws)
+    → length (listOf (polygonOf r s ws)) ≤ 2 * (length ws + 2)
 at-most r s ws T u z =
     let q = run-sized r s ws in
     let c = list-count (run-laws (runOf r s ws) T u) (polygonOf r s ws) (length ws + 2) (omega arith) (q .upper≤) (q .lower≤) z in

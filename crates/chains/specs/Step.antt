@@ -1,7 +1,8 @@
 -- One cut: the polygon of the lines at or below a later point N, where slow is below N and fast above it.
 --
 --     pushIf g ks N        N at the end of the chain, where g is above 0
---     cut N x              the upper chain is popped and the lower chain loses its head, both as far as N cuts them off; fast becomes the line through the lower chain's head and N; N goes on the upper chain unless the line to it from the chain's end has fast's slope. Then the fit is a mere segment of lines, through one point that is both a high and a low end
+--     cut N x              the upper chain loses its end and the lower chain its head, both as far as N cuts them off; fast becomes the line through the lower chain's head and N; N goes on the upper chain unless the line to it from the chain's end has fast's slope. Then the fit is a mere segment of lines, through one point that is both a high and a low end
+--     cutWith ks N x       the same with ks left of the upper chain
 --     cut-chains           the cut keeps the invariant
 --
 -- Assumes nothing.
@@ -19,8 +20,7 @@ use Rattle.integers.specs.Solve.{claims, certify! }
 use Rattle.definitions.specs.Lines.{Line}
 use Rattle.definitions.specs.Fit.{SlopeBelow}
 use Rattle.chains.specs.Points.{Point, gap, Touches, through, turn, SlopeAtMost, through-first, through-second, through-steeper, touches-too}
-use Rattle.chains.specs.Mirror.{negP, neg-touches, negP-negP}
-use Rattle.chains.specs.Extremes.{Laws}
+use Rattle.chains.specs.Extremes.{Laws, bottom-top}
 use Rattle.chains.specs.Chain.{Chain, Chains, ends-map, headOf, lastOf, Polygon}
 use Rattle.chains.specs.Cut.{Under, With, keepUnder, Kept, kept, dropOver, Dropped, dropped}
 
@@ -29,13 +29,18 @@ pushIf (pos zero) ks N = ks
 pushIf (pos (suc n)) ks N = ks ++ N ∷ []
 pushIf (negsuc n) ks N = ks
 
--- the fit's lines at or below N, where slow is below it and fast above it
+-- with ks left of the upper chain
+abbrev pub cutWith : List Point → Point → Polygon → Polygon
+cutWith ks N x =
+    record {
+      upper = pushIf (turn (through (lastOf ks) N) (through (headOf (dropOver N (x .lower))) N)) ks N;
+      lower = dropOver N (x .lower);
+      slow = x .slow;
+      fast = through (headOf (dropOver N (x .lower))) N;
+    }
+
 abbrev pub cut : Point → Polygon → Polygon
-cut N x =
-    let ks = keepUnder N (x .upper) in
-    let ls = dropOver N (x .lower) in
-    let y = through (headOf ls) N in
-    record { upper = pushIf (turn (through (lastOf ks) N) y) ks N; lower = ls; slow = x .slow; fast = y }
+cut N x = cutWith (keepUnder N (x .upper)) N x
 
 turn-above : (v w : Line) (n : ℕ) → turn v w ≡ pos (suc n) → SlopeBelow v w
 turn-above v w n e = pos-sub (subst (λ z. pos 0 <ℤ z) (sym e) (omega ints))
@@ -54,7 +59,8 @@ turn-not-below v w n h e = no (subst (λ z. pos 0 ≤ℤ z) e (nonneg v w h))
 
 module _ {F : Line → Type 0} {Top Bot : Point → Type 0} {T : ℤ} (laws : Laws F Top Bot T) (N : Point) (late : T ≤ℤ N .t) where
   -- the upper chain, ended by a line y through a lower end and N
-  cut-up : {s : Line} {ks : List Point} (k : Kept F Top N s ks) (y : Line) → Under F N y → Touches y N → SlopeAtMost (through (k .end) N) y → Chain (Under F N) (With Top N) s (pushIf (turn (through (k .end) N) y) ks N) y
+  cut-up : {s : Line} {ks : List Point} (k : Kept F Top N s ks) (y : Line) → Under F N y → Touches y N → SlopeAtMost (through (k .end) N) y
+      → Chain (Under F N) (With Top N) s (pushIf (turn (through (k .end) N) y) ks N) y
   cut-up {s} {ks} k y gy yn le = by (turn (through (k .end) N) y) refl
     where
       by : (g : ℤ) → turn (through (k .end) N) y ≡ g → Chain (Under F N) (With Top N) s (pushIf g ks N) y
@@ -69,21 +75,12 @@ module _ {F : Line → Type 0} {Top Bot : Point → Type 0} {T : ℤ} (laws : La
       let ls = dropOver N (x .lower) in
       let y = through (headOf ls) N in
       let K : Kept F Top N (x .slow) (keepUnder N (x .upper)) = kept laws N (c .up) h (<ℤ→≤ℤ k) in
-      let D : Dropped F Top Bot N (dropOver N (x .lower)) (x .slow) = dropped laws N late (x .lower) (x .fast) (x .slow) (c .down) (<ℤ→≤ℤ k) h in
+      let D : Dropped F Bot N (dropOver N (x .lower)) (x .slow) = dropped laws N late (x .lower) (x .fast) (x .slow) (c .down) (<ℤ→≤ℤ k) h in
       let gy : Under F N (through (headOf (dropOver N (x .lower))) N) = (D .fits, ≤ℤ-of-≡ (through-second (headOf ls) N)) in
       let le : SlopeAtMost (through (K .end) N) (through (headOf (dropOver N (x .lower))) N) = through-steeper (through (K .end) N) (headOf ls) N (laws .over _ _ (D .bot) (K .fits)) (through-second (K .end) N) in
       record {
         slow-ends = ends-map (λ A a. inl a) (λ A a. a) (c .slow-ends);
-        fast-ends =
-            record {
-              first = negP (headOf ls);
-              second = negP N;
-              top = subst Bot (sym (negP-negP (headOf ls))) (D .bot);
-              bot = inr (negP-negP N);
-              rise = D .before;
-              on-first = neg-touches y (headOf ls) (through-first (headOf ls) N);
-              on-second = neg-touches y N (through-second (headOf ls) N);
-            };
+        fast-ends = bottom-top (With Top N) Bot y (headOf ls) N (D .bot) (inr refl) (D .before) (through-first (headOf ls) N) (through-second (headOf ls) N);
         up = subst (λ A. Chain (Under F N) (With Top N) (x .slow) (pushIf (turn (through A N) y) ks N) y) (sym (K .is-end)) (cut-up K y gy (through-second (headOf ls) N) le);
         down = D .chain;
       }

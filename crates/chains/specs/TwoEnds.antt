@@ -109,14 +109,16 @@ in-from r s rs u v a b (here {x = q} {xs = qs} e) =
     in-append-left (candidatesFrom r qs) (subst (λ z. In (through (r .time) u (s .time) v) (throughEnds r z)) e (in-ends r s u v a b))
 in-from r s rs u v a b (there {x = q} {xs = qs} i) = in-append-right (throughEnds r q) (in-from r s qs u v a b i)
 
-pub candidate : (rs : List Range) → Ordered rs → (r s : Range) → In r rs → In s rs → r .time < s .time → (u v : ℤ) → IsEnd r u → IsEnd s v → In (through (r .time) u (s .time) v) (candidates rs)
+pub candidate : (rs : List Range) → Ordered rs → (r s : Range) → In r rs → In s rs → r .time < s .time → (u v : ℤ) → IsEnd r u → IsEnd s v
+    → In (through (r .time) u (s .time) v) (candidates rs)
 unfolding candidates
 candidate (q ∷ qs) o r s i j lt u v a b = by (in-cons-inv i) (in-cons-inv j) (λ k m. candidate qs (o .2) r s k m lt u v a b)
   where
     never : (m n : ℕ) → m < n → n < m → ⊥
     never m n h k = omega arith
 
-    by : (r ≡ q) ⊎ In r qs → (s ≡ q) ⊎ In s qs → (In r qs → In s qs → In (through (r .time) u (s .time) v) (candidates qs)) → In (through (r .time) u (s .time) v) (candidatesFrom q qs ++ candidates qs)
+    by : (r ≡ q) ⊎ In r qs → (s ≡ q) ⊎ In s qs → (In r qs → In s qs → In (through (r .time) u (s .time) v) (candidates qs))
+        → In (through (r .time) u (s .time) v) (candidatesFrom q qs ++ candidates qs)
     by (inl e) (inl f) later = let h : q .time < q .time = subst (λ z. z .time < q .time) e (subst (λ z. r .time < z .time) f lt) in absurd (never (q .time) (q .time) h h)
     by (inl e) (inr k) later = in-append-left (candidates qs) (subst (λ z. In (through (r .time) u (s .time) v) (candidatesFrom z qs)) e (in-from r s qs u v a b k))
     by (inr i) (inl f) later = absurd (never (r .time) (s .time) lt (subst (λ z. z .time < r .time) (sym f) (All-in (o .1) i)))
