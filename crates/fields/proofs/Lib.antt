@@ -1,0 +1,4 @@
+pub mod PartLaws
+pub mod TwosComplement
+pub mod Walks
+pub mod Bridges

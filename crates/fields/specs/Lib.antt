@@ -1,0 +1,5 @@
+pub mod Heads
+pub mod Places
+pub mod Splices
+pub mod HeadLaws
+pub mod SpliceLaws
