@@ -7,11 +7,11 @@
 --     first-fits, last-fits, head-top   the first and the last line of a chain are in F, its first point is in Top
 --     chain-map, ends-map, chains-map   the same for larger sets
 --     mirrorPolygon, ends-mirror, mirror          the mirror image of a polygon has the invariant of the mirror image of the set
---     lastFrom, lastOf, headOf   the last and the first point of a list that has one
+--     lastFrom, lastOf, headOf   the last and the first point of a list that has one, and origin for a list that has none
 --
 -- In slope and intercept a point is an edge of the polygon and a line a corner: the upper chain has the edges above the diagonal, the lower chain those below it.
 -- Assumes nothing.
-use mathlib.Core.Path.{_≡_, refl, sym, transport}
+use mathlib.Core.Path.{_≡_, sym, transport}
 use mathlib.Core.List.{List, [], _∷_}
 use lib.IntN.{pos}
 use lib.Signed.{_<ℤ_}

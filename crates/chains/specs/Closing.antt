@@ -7,7 +7,7 @@
 --     Later, InOrder         the run's ranges, the last one first, in order: no low above its high, times that fall strictly along the list
 --     runOf r s ws           the run r, s, and then ws, the last one first
 --     polygonOf r s ws       its polygon: the start from r and s, and each of ws joined
---     lastTime, run-until    the time of the last range
+--     lastTime, run-until, last-earlier   the time of the last range, which no range of the run passes; a later range is after it
 --     run-state              a run in order that has a line has its polygon
 --
 -- Assumes nothing.

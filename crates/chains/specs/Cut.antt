@@ -3,11 +3,11 @@
 --     Under F N, Over F N          the lines of F at or below N, at or above N
 --     With Top N                   the points of Top, and N
 --     under-laws                   with N as one more upper end the lines at or below N are again a set that the geometry takes
---     keepUnder N xs               the upper chain's beginning: the points up to the first one from which the line to the next is at or above N
+--     keepUnder N xs               (keepUnderAfter, keepUnderIf) the upper chain's beginning: the points up to the first one from which the line to the next is at or above N
 --     kept, Kept                   it is a beginning of a chain for the lines at or below N, to be ended at its last point or at N
 --     dropUnder N xs               a chain's end: the first point is dropped while the line through the first two is at or below N
 --     dropped-under, DroppedUnder  for the lines at or above N it is a chain from the line through its first point and N
---     dropOver N xs                the lower chain's end: the first point is dropped while the line through the first two is at or above N
+--     dropOver N xs                (dropOverFrom, dropOverIf) the lower chain's end: the first point is dropped while the line through the first two is at or above N
 --     dropped, Dropped             for the lines at or below N it is a lower chain that ends at the line through its first point and N, proved as the mirror image of dropUnder
 --
 -- A new corner is the line through a point A of the old chain and N. It is a weighted mean of the two old lines that meet at A, one below N and one above, so it fits all old ranges without a look at them.
@@ -119,15 +119,15 @@ module _ {F : Line → Type 0} {Top Bot : Point → Type 0} {T : ℤ} (laws : La
   kept-more : {v : Line} {A B : Point} {ks : List Point} → Bend F Top v A (through A B) → gap v N <ℤ pos 0 → A .t <ℤ B .t → Kept F Top N (through A B) (B ∷ ks)
       → Kept F Top N v (A ∷ B ∷ ks)
   kept-more {v} {A} {B} b h lt r =
-      let b′ : Bend (Under F N) (With Top N) v A (through A B) = record { fits = (b .fits, <ℤ→≤ℤ h); top = inl (b .top); before = b .before; after = b .after; turns = b .turns } in
+      let bend : Bend (Under F N) (With Top N) v A (through A B) = record { fits = (b .fits, <ℤ→≤ℤ h); top = inl (b .top); before = b .before; after = b .after; turns = b .turns } in
       record {
         end = r .end;
         is-end = r .is-end;
         top = r .top;
         before = r .before;
         fits = r .fits;
-        stop = λ y gy ya le. next b′ lt (r .stop y gy ya le);
-        push = λ y gy yn st. next b′ lt (r .push y gy yn st);
+        stop = λ y gy ya le. next bend lt (r .stop y gy ya le);
+        push = λ y gy yn st. next bend lt (r .push y gy yn st);
       }
 
   pub kept : {v : Line} {xs : List Point} {w : Line} → Chain F Top v xs w → gap v N <ℤ pos 0 → pos 0 ≤ℤ gap w N → Kept F Top N v (keepUnder N xs)

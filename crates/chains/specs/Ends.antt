@@ -2,7 +2,7 @@
 --
 --     H r, L r                     the high end of range r, the point (time, high), and its low end, (time, low)
 --     under-H, over-L, fits-range  a line fits a range exactly when it is not above H and not below L
---     on-value                     a line through a value between low and high fits
+--     on-value, touch-over         a line through a value is over every lower value of that time; a line through a value between low and high fits
 --     mean-fits                    a weighted mean of lines that fit some ranges fits them
 --     time<, time≤, un-time<       the order of times as natural numbers and as whole numbers
 --

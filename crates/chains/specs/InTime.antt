@@ -13,12 +13,12 @@
 use mathlib.Core.Path.{_≡_, refl, sym, _∙_, ap, subst}
 use mathlib.Core.List.{List, [], _∷_, _++_, reverse, reverseAux, reverseAux-eq, reverse-reverse}
 use Prim.Native.Nat.{ℕ, _<_, _≤_}
-use Rattle.definitions.specs.Outlook.{endTime}
 use native.Mathlib.Omega.{arith}
 use lib.Signed.{_≤ℤ_}
 use Rattle.integers.specs.Lists.{In, in-reverse, in-reverse-inv, All, nil, cons, All-head, All-tail, All-imp₂, All-of, All-reverse, All-append-right}
 use Rattle.definitions.specs.Ranges.{Range}
 use Rattle.definitions.specs.Lines.{Line}
+use Rattle.definitions.specs.Outlook.{endTime}
 use Rattle.definitions.specs.Fit.{InFit, Ordered}
 use Rattle.chains.specs.Run.{Until}
 use Rattle.chains.specs.Closing.{runOf, Later, InOrder}

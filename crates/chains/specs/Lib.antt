@@ -21,5 +21,6 @@ pub mod Size
 pub mod Built
 pub mod Means
 pub mod TwoEnds
+pub mod Candidates
 pub mod InTime
 pub mod Results

@@ -11,6 +11,7 @@
 --
 --     through-first, through-second, through-mean, through-steeper   of the line through two points
 --     same-refl, same-line, same-touching, touches-too               when two lines are the same line
+--     under-below, over-below        of two lines at the time of a point that one of them touches
 --     rising, beyond                 a line that another one overtakes between two times: the slopes, and the values from then on
 --     earlier-under, earlier-over, steeper-on, steeper-over, stays-over   of two lines through one point A and a point N: the order of A and N in time, of the slopes, and of the values at N
 --     below-over, below-under        a point at which l is at most as high as m: where l is over it m is, where m is under it l is

@@ -1,6 +1,6 @@
 -- Popping a chain from its end, as code does with a stack, leaves what `keepUnder` keeps from its beginning.
 --
---     trim N ys         ys has its end first: the end goes while the line through the last two points is at or above N
+--     trim N ys         (trimIf) ys has its end first: the end goes while the line through the last two points is at or above N
 --     popEnd N xs       the same of a list in its own order
 --     pop-keep          on a chain it is keepUnder
 --

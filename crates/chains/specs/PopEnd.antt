@@ -40,7 +40,7 @@ popSpot N x = spotBy popEnd N x
 unfoldable pub popJoin : Range → Polygon → Polygon
 popJoin r x = joinBy popEnd r x
 
--- ---- on a state they are the model's
+-- ---- on a state they are the same
 module _ {F : Line → Type 0} {Top Bot : Point → Type 0} {T : ℤ} (laws : Laws F Top Bot T) (N : Point) (late : T ≤ℤ N .t) where
   no-single : (x : Polygon) → Single F Top Bot x → gap (x .slow) N <ℤ pos 0 → pos 0 <ℤ gap (x .fast) N → ⊥
   no-single x o h k = same-under (x .slow) (x .fast) N (laws .positive _ (o .slow-fits)) (laws .positive _ (o .fast-fits)) (o .same .slope) (o .same .intercept) (<ℤ→≤ℤ h) k
@@ -78,7 +78,7 @@ pub below-same : {F : Line → Type 0} {Top Bot : Point → Type 0} {T : ℤ} �
 unfolding popAbove popBelow
 below-same laws N late x z = ap mirrorPolygon (above-same (mirror-laws laws) (negP N) late (mirrorPolygon x) (state-mirror x z))
 
--- a range that joins: the join by popping from the end is the model's
+-- a range that joins
 pub join-same : (rs : List Range) (T : ℕ) → Until rs T → (r : Range) → T < r .time → r .low ≤ℤ r .high → (x : Polygon) → RunState rs x → gap (x .slow) (H r) ≤ℤ pos 0
     → popJoin r x ≡ join r x
 unfolding popAbove popBelow popSpot popJoin

@@ -7,6 +7,7 @@
 --     slow-lowest, fast-highest  from the last time on, where slow is at or above a level every line of the fit is, and where some line is, fast is
 --     slow-ends, fast-ends       slow is the line through a high and a later low, fast the line through a low and a later high
 --     corners-fit, corners-touch, corners-candidates   every listed line fits, goes through two ends, and is the same line as one of the candidates
+--     slow-listed, fast-listed   slow and fast are in the list
 --     corners-in-order           the list is in corner order
 --     corners-at-most            k ranges give at most 2k corners
 --     mean-of-corners            every line of the fit is a weighted mean of the listed lines
@@ -16,13 +17,19 @@
 --     joins-or-closes            a further range has a line with the run, or two ranges of the run and it have none
 --     one-has-line, two-have-line   one range and two ranges always have a line
 --
--- Where the algorithm departs from 001, and why. 001's printed algorithm starts the new polygon from the range before the closing one and the closing range; here a new segment starts from the closing range only, so `start` waits for the range after it, as document 01 decides. 001 wants times above 0, so that each edge of its polygon falls and the rightmost corner is the lowest; here a time may be 0, and nothing is said of intercepts: slow and fast are known by their slopes and by the ends that they touch. 001 keeps the corners of the polygon in a ring and cuts it by the half-planes of a range; here the ring is kept as its edges, which are points of the trace, so that each corner is made anew from two points and no number grows. 001 takes for granted that a polygon has an inside; here a fit that is a point or a segment of lines is kept like any other. The bound 10n − 16 on comparisons is not used: that each point is pushed once and popped once is enough.
+-- ThroughTwoEnds and ThroughEnds are of `TwoEnds`, Closed is of `Closing`; all three speak of ranges and lines alone. `Candidates` has that every candidate goes through two ends.
+--
+-- Where the algorithm departs from O'Rourke's printed one (001), and why:
+--     the start        001 makes the new polygon from the range before the closing one and the closing one; document 01 starts a new segment from the closing range only, so the polygon starts when the range after it has come
+--     times            001 wants them above 0, so that every edge falls and the rightmost corner is the lowest; here a time may be 0, and slow and fast are known by their slopes and by the ends that they touch, never by intercepts
+--     what is kept     001 keeps the ring of corners and cuts it by a range's two half-planes; here the ring is kept as its edges, which are points of the trace, so that every corner is made from two points and no number grows
+--     thin fits        001 takes a polygon with an inside for granted; here a fit that is a point or a segment of lines is kept, since a range with low = high makes one
+--     the bound        001's 10n − 16 comparisons are not used: each point is pushed once and popped once
 -- Assumes nothing.
 use mathlib.Core.Path.{_≡_, refl, ap}
 use mathlib.Core.List.{List, [], _∷_, _++_, reverse, reverse-append}
 use mathlib.Core.Logic.{_⊎_, inl, inr}
 use Prim.Native.Nat.{ℕ, _≤_, _*_}
-use Rattle.definitions.specs.Outlook.{endTime}
 use native.Mathlib.Omega.{arith}
 use lib.ListN.{length, length-reverse}
 use lib.IntN.{ℤ, pos, _+ℤ_, _*ℤ_}
@@ -32,6 +39,7 @@ use Rattle.integers.specs.Solve.{claims, certify! }
 use Rattle.integers.specs.Lists.{All, nil, cons, All-head, All-imp, Any, All-imp₂, All-append, All-in, All-tail, Any-imp, In}
 use Rattle.definitions.specs.Ranges.{Range}
 use Rattle.definitions.specs.Lines.{Line, reading, candidates}
+use Rattle.definitions.specs.Outlook.{endTime}
 use Rattle.definitions.specs.Fit.{InFit, HasLine, Ordered, SameLine, WeightedMean, InCornerOrder, Reaches, Corner}
 use Rattle.chains.specs.Points.{gap, SlopeAtMost, below-over, Below}
 use Rattle.chains.specs.Ends.{time≤}
@@ -45,7 +53,8 @@ use Rattle.chains.specs.Closing.{Closed, closed-map, Verdict, joins, clo
 use Rattle.chains.specs.Listing.{listOf, list-mean, list-pinned, list-order, corner-list, list-fast, list-slow}
 use Rattle.chains.specs.Size.{at-most}
 use Rattle.chains.specs.Means.{weighted-mean, corner-of, of-corner}
-use Rattle.chains.specs.TwoEnds.{ThroughTwoEnds, ThroughEnds, joined-ends, same-ends, ends-fit, ends-candidate, two-ends-map, through-ends-map, pinned-two-ends, top-then-bottom, bottom-then-top, two-ends-pinned}
+use Rattle.chains.specs.TwoEnds.{ThroughTwoEnds, ThroughEnds, joined-ends, same-ends, ends-fit, two-ends-map, through-ends-map, pinned-two-ends, top-then-bottom, bottom-then-top, two-ends-pinned}
+use Rattle.chains.specs.Candidates.{ends-candidate}
 use Rattle.chains.specs.InTime.{all-turned, fits-turned, fits-in-time, in-in-time, ordered-turned, run-end-until, all-in-time, end-earlier, in-turned, ordered-last}
 
 -- ---- the polygon of a run

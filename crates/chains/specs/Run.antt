@@ -5,7 +5,7 @@
 --     Until rs T                 no range is later than T
 --     run-laws                   the fit of a run is a set of lines that the geometry takes
 --     RunState rs x              x is the polygon of the fit of rs
---     join r x, joinBy           one more range: the cut above at its high end and the cut below at its low end, or the lines through its one point
+--     join r x, joinBy, joinIf   one more range: the cut above at its high end and the cut below at its low end, or the lines through its one point
 --     joined                     where slow is not above the new range and fast not below it, join has the polygon of the longer run
 --
 -- Assumes nothing.
@@ -131,8 +131,8 @@ joined rs T u r lt le x z h k = by (r .high -ℤ r .low) refl
     above : State (Under (InFit rs) (H r)) (TopOf (r ∷ rs)) (BotOf rs) (cutAbove (H r) x)
     above = cut-above laws (H r) (<ℤ→≤ℤ late) (λ B b. inl (≤ℤ-<ℤ-trans (laws .bot-early B b) late)) x z h
 
-    laws′ : Laws (Under (InFit rs) (H r)) (TopOf (r ∷ rs)) (BotOf rs) (pos (r .time))
-    laws′ = under-laws (H r) laws (<ℤ→≤ℤ late)
+    cut-laws : Laws (Under (InFit rs) (H r)) (TopOf (r ∷ rs)) (BotOf rs) (pos (r .time))
+    cut-laws = under-laws (H r) laws (<ℤ→≤ℤ late)
 
     apart : r .low <ℤ r .high → (B : Point) → TopOf (r ∷ rs) B → (B .t <ℤ pos (r .time)) ⊎ (r .low <ℤ B .u)
     apart w B (inl b) = inl (≤ℤ-<ℤ-trans (laws .top-early B b) late)
@@ -142,7 +142,7 @@ joined rs T u r lt le x z h k = by (r .high -ℤ r .low) refl
     two : r .low <ℤ r .high → RunState (r ∷ rs) (cutBelow (L r) (cutAbove (H r) x))
     two w =
         state-map (λ l f. all l (f .0 .0) (f .0 .1) (f .1)) (λ A a. a) (λ A a. a)
-        (cut-below laws′ (L r) (≤ℤ-of-≡ refl) (apart w) (cutAbove (H r) x) above (fast-over r x le (laws′ .positive _ (state-fast (cutAbove (H r) x) above)) h k))
+        (cut-below cut-laws (L r) (≤ℤ-of-≡ refl) (apart w) (cutAbove (H r) x) above (fast-over r x le (cut-laws .positive _ (state-fast (cutAbove (H r) x) above)) h k))
 
     by : (g : ℤ) → r .high -ℤ r .low ≡ g → RunState (r ∷ rs) (joinIf keepUnder g r x)
     by (pos zero) e = one (diff-zero (r .high) (r .low) e)

@@ -3,7 +3,7 @@
 --     On F N                    the lines of F through N
 --     spotCut N x               where slow is below N and fast above it: slow and fast are the lines from the upper chain's new end and from the lower chain's new head to N, and both chains are N alone
 --     spotWith ks N x           the same with ks left of the upper chain
---     spot N x, spotBy          slow alone or fast alone where one of them touches N, and spotCut else
+--     spot N x, spotBy          (spotSlow, spotFast) slow alone or fast alone where one of them touches N, and spotCut else
 --     spot-state                it keeps the state
 --
 -- Assumes nothing.

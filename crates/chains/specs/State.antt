@@ -5,10 +5,11 @@
 --     state-map, state-mirror  larger sets; the mirror image
 --     state-slow, state-fast, state-slow-ends, state-fast-ends   slow and fast are lines of the fit, with their ends
 --     alone l x                the polygon of one line
---     cutAbove N x             the fit's lines at or below N, of which slow is one: x itself where fast is not above N, slow alone where slow touches N, and `cut` else
+--     cutAbove N x             (cutFast, cutSlow) the fit's lines at or below N, of which slow is one: x itself where fast is not above N, slow alone where slow touches N, and `cut` else
 --     cutBelow N x             the fit's lines at or above N: the mirror image of cutAbove
---     cutAboveBy, cutBelowBy   the same, with another rule for what is left of the upper chain
+--     cutAboveBy, cutBelowBy   the same, with any rule Shorten for what is left of the upper chain
 --     cut-above, cut-below     both keep the state
+--     un-with                  one more point, seen in the mirror and back
 --     same-under               one line is not on both sides of a point
 --
 -- Fits that are a point or a segment of lines are states like any other: 001 takes a polygon with an interior for granted.

@@ -1,20 +1,20 @@
--- Lines through an end of one range and an end of a later one, in terms of ranges and lines alone, and that each is one of definitions' candidates.
+-- Lines through an end of one range and an end of a later one, in terms of ranges and lines alone.
 --
 --     IsEnd r u                  u is the low or the high of r
---     ThroughTwoEnds rs l        the values of l at the times of two of the ranges are ends of these
+--     ThroughTwoEnds rs l        the values of l at the times of two of the ranges rs are ends of these
 --     ThroughEnds P Q rs l       l is the line through the ends P and Q of two ranges, the first one earlier: high and low for slow, low and high for fast
---     joined-ends                the line through the two ends, as the candidates have it
---     same-ends                  l is this line
---     ends-fit                   which fits some ranges if l does
---     candidate                  it is one of the candidates
---     same-fits                  a line that is the same line as one that fits, fits
+--     touches-reading, reading-touches   to touch a point is to have its value at its time
+--     joined-ends, same-ends, ends-fit   the line through the two ends, with the numbers that the candidates have; l is this line; it fits where l does
+--     same-through, through-positive, same-fits   a line is the line through two of its points; its d is above 0; the same line fits the same ranges
+--     pinned-two-ends, two-ends-pinned   a line of the fit goes through two ends exactly when it is pinned
+--     top-then-bottom, bottom-then-top   slow and fast by their ends
+--     two-ends-map, through-ends-map     of a run with the same ranges
 --
 -- Assumes nothing.
 use mathlib.Core.Path.{_≡_, refl, sym, subst}
-use mathlib.Core.List.{List, [], _∷_, _++_}
+use mathlib.Core.List.{List, [], _∷_}
 use mathlib.Core.Logic.{_⊎_, inl, inr}
 use Prim.Native.Nat.{ℕ, _<_}
-use native.Mathlib.Omega.{arith}
 use lib.IntN.{ℤ, pos, _+ℤ_, _*ℤ_, *ℤ-comm}
 use lib.Signed.{_<ℤ_}
 use Rattle.integers.specs.Parts.{ints}
@@ -22,10 +22,10 @@ use Rattle.integers.specs.OrderLaws.{<ℤ→≤ℤ, sub-pos}
 use Rattle.integers.specs.RingSolver.{lit}
 use Rattle.integers.specs.Certificates.{num, eqn}
 use Rattle.integers.specs.Solve.{claims, certify! }
-use Rattle.integers.specs.Lists.{In, here, there, in-cons-inv, in-append-left, in-append-right, All-in}
+use Rattle.integers.specs.Lists.{In}
 use Rattle.definitions.specs.Ranges.{Range}
-use Rattle.definitions.specs.Lines.{Line, reading, through, throughEnds, candidatesFrom, candidates}
-use Rattle.definitions.specs.Fit.{InFit, Ordered, SameLine}
+use Rattle.definitions.specs.Lines.{Line, reading, through}
+use Rattle.definitions.specs.Fit.{InFit, SameLine}
 use Rattle.chains.specs.Points.{Point, Touches, same-line, through-first, through-second}
 use Rattle.chains.specs.Mirror.{image-touches, negP}
 use Rattle.chains.specs.Ends.{mean-fits, time<, H, L, un-time<}
@@ -95,35 +95,6 @@ same-fits rs k l s k-over f =
     })
     k-over f f
 
--- ---- the candidates
-in-ends : (r s : Range) (u v : ℤ) → IsEnd r u → IsEnd s v → In (through (r .time) u (s .time) v) (throughEnds r s)
-unfolding throughEnds
-in-ends r s u v (inl a) (inl b) = there (there (here (λ i. through (r .time) (a i) (s .time) (b i))))
-in-ends r s u v (inl a) (inr b) = there (there (there (here (λ i. through (r .time) (a i) (s .time) (b i)))))
-in-ends r s u v (inr a) (inl b) = here (λ i. through (r .time) (a i) (s .time) (b i))
-in-ends r s u v (inr a) (inr b) = there (here (λ i. through (r .time) (a i) (s .time) (b i)))
-
-in-from : (r s : Range) (rs : List Range) (u v : ℤ) → IsEnd r u → IsEnd s v → In s rs → In (through (r .time) u (s .time) v) (candidatesFrom r rs)
-unfolding candidatesFrom
-in-from r s rs u v a b (here {x = q} {xs = qs} e) =
-    in-append-left (candidatesFrom r qs) (subst (λ z. In (through (r .time) u (s .time) v) (throughEnds r z)) e (in-ends r s u v a b))
-in-from r s rs u v a b (there {x = q} {xs = qs} i) = in-append-right (throughEnds r q) (in-from r s qs u v a b i)
-
-pub candidate : (rs : List Range) → Ordered rs → (r s : Range) → In r rs → In s rs → r .time < s .time → (u v : ℤ) → IsEnd r u → IsEnd s v
-    → In (through (r .time) u (s .time) v) (candidates rs)
-unfolding candidates
-candidate (q ∷ qs) o r s i j lt u v a b = by (in-cons-inv i) (in-cons-inv j) (λ k m. candidate qs (o .2) r s k m lt u v a b)
-  where
-    never : (m n : ℕ) → m < n → n < m → ⊥
-    never m n h k = omega arith
-
-    by : (r ≡ q) ⊎ In r qs → (s ≡ q) ⊎ In s qs → (In r qs → In s qs → In (through (r .time) u (s .time) v) (candidates qs))
-        → In (through (r .time) u (s .time) v) (candidatesFrom q qs ++ candidates qs)
-    by (inl e) (inl f) later = let h : q .time < q .time = subst (λ z. z .time < q .time) e (subst (λ z. r .time < z .time) f lt) in absurd (never (q .time) (q .time) h h)
-    by (inl e) (inr k) later = in-append-left (candidates qs) (subst (λ z. In (through (r .time) u (s .time) v) (candidatesFrom z qs)) e (in-from r s qs u v a b k))
-    by (inr i) (inl f) later = absurd (never (r .time) (s .time) lt (subst (λ z. z .time < r .time) (sym f) (All-in (o .1) i)))
-    by (inr i) (inr k) later = in-append-right (candidatesFrom q qs) (later i k)
-
 -- ---- of a line through two ends
 module _ {rs : List Range} {l : Line} (t : ThroughTwoEnds rs l) where
   abbrev pub joined-ends : Line
@@ -136,9 +107,6 @@ module _ {rs : List Range} {l : Line} (t : ThroughTwoEnds rs l) where
 
   pub ends-fit : InFit rs l → InFit rs joined-ends
   ends-fit f = same-fits rs joined-ends l same-ends (through-positive (t .first .time) (t .second .time) (t .first-value) (t .second-value) (t .earlier)) f
-
-  pub ends-candidate : Ordered rs → In joined-ends (candidates rs)
-  ends-candidate o = candidate rs o (t .first) (t .second) (t .first-in) (t .second-in) (t .earlier) (t .first-value) (t .second-value) (t .first-end) (t .second-end)
 
 -- a run with the same ranges
 pub two-ends-map : {rs qs : List Range} {l : Line} → ((q : Range) → In q rs → In q qs) → ThroughTwoEnds rs l → ThroughTwoEnds qs l

@@ -3,8 +3,6 @@
 --     fitsRange-iff, fits-iff                      the tests of a line decide FitsRange and, where d is above 0, InFit
 --     candidates-positive                          each candidate of ranges in order has d above 0
 --     lowLine, lowLine-fits, every-slope           one range has a line of every slope p/d: the one through its low
---     through-first, through-second                the line through two points has their values at their times
---     pair-fits, pair-has-line                     two ranges always have a line: the one through their lows
 --     InFit-append, InFit-left, InFit-right        the lines of the fit of xs ++ ys are those of both fits
 --     HasLine-left, HasLine-right, HasLine-part    consecutive parts of ranges with a line have a line
 --     no-ranges                                    the empty list has a line, as any line will do
@@ -17,20 +15,20 @@
 use mathlib.Core.Path.{_≡_, sym}
 use mathlib.Core.Logic.{_↔_}
 use mathlib.Core.List.{List, [], _∷_, _++_}
-use Prim.Native.Nat.{ℕ, _<_, _≤_}
+use Prim.Native.Nat.{_≤_}
 use native.Mathlib.Omega.{arith}
 use lib.Dec.{T}
 use lib.ListN.{length}
 use lib.IntN.{ℤ, pos, _+ℤ_, _-ℤ_, _*ℤ_}
 use lib.Signed.{_≤ℤ_, _<ℤ_, leZ}
-use Rattle.integers.specs.Parts.{ints, parts-sub}
 use Rattle.integers.specs.OrderLaws.{≤ℤ-trans, ≤ℤ-of-≡, <ℤ→≤ℤ, *ℤ-mono-l}
 use Rattle.integers.specs.Solve.{claims, polynomial! }
 use Rattle.integers.specs.Booleans.{and-intro, and-left, and-right}
-use Rattle.integers.specs.Lists.{All, nil, cons, Any, any-means, any-passes, all-means, all-passes, All-in, All-head, All-append, All-append-left, All-append-right}
+use Rattle.integers.specs.Lists.{All, nil, cons, Any, any-means, any-passes, all-means, all-passes, All-in, All-of, All-append, All-append-left, All-append-right}
 use Rattle.definitions.specs.Ranges.{Range}
-use Rattle.definitions.specs.Lines.{Line, reading, fitsRange, fits, through, throughEnds, candidatesFrom, candidates, hasLine}
+use Rattle.definitions.specs.Lines.{Line, reading, fitsRange, fits, candidates, hasLine}
 use Rattle.definitions.specs.Fit.{FitsRange, InFit, HasLine, Ordered}
+use Rattle.chains.specs.Candidates.{candidate-positive}
 use Rattle.lines.specs.LineOrder.{Positive}
 
 -- ---- the tests of a line
@@ -51,23 +49,10 @@ fits-iff rs l h = (
 )
 
 -- ---- the candidates
-through-positive : (a b : ℕ) (u v : ℤ) → a < b → Positive (through a u b v)
-unfolding through
-through-positive a b u v h = omega (ints, parts-sub (pos b) (pos a))
-
-from-positive : (r : Range) {rs : List Range} → All (λ s. r .time < s .time) rs → All Positive (candidatesFrom r rs)
-unfolding candidatesFrom throughEnds
-from-positive r nil = nil
-from-positive r (cons {x = s} h hs) =
-    let over : (u v : ℤ) → Positive (through (r .time) u (s .time) v) = λ u v. through-positive (r .time) (s .time) u v h in
-    cons (over (r .high) (s .low)) (cons (over (r .high) (s .high)) (cons (over (r .low) (s .low)) (cons (over (r .low) (s .high)) (from-positive r hs))))
-
 pub candidates-positive : (rs : List Range) → Ordered rs → All Positive (candidates rs)
-unfolding candidates
-candidates-positive [] o = nil
-candidates-positive (r ∷ rs) o = All-append (from-positive r (o .1)) (candidates-positive rs (o .2))
+candidates-positive rs o = All-of (candidates rs) (candidate-positive rs o)
 
--- ---- one range and two ranges: lines through the lows
+-- ---- one range: lines through its low
 fits-at-low : {l : Line} {r : Range} → pos 0 <ℤ l .d → r .low ≤ℤ r .high → reading l (r .time) ≡ l .d *ℤ r .low → FitsRange l r
 fits-at-low {l} h o e = record { over-low = ≤ℤ-of-≡ (sym e); under-high = ≤ℤ-trans (≤ℤ-of-≡ e) (*ℤ-mono-l (l .d) (<ℤ→≤ℤ h) o) }
 
@@ -85,25 +70,6 @@ lowLine-fits r o p d h = record { positive = h; each = cons (fits-at-low h o (lo
 pub every-slope : (r : Range) → r .low ≤ℤ r .high → (p d : ℤ) → pos 0 <ℤ d → (q : ℤ) × InFit (r ∷ []) (record { p = p; q = q; d = d })
 unfolding lowLine
 every-slope r o p d h = (lowLine r p d .q, lowLine-fits r o p d h)
-
-module _ (a u b v : ℤ) where
-  pub through-first : (v -ℤ u) *ℤ a +ℤ (u *ℤ b -ℤ v *ℤ a) ≡ (b -ℤ a) *ℤ u
-  through-first = polynomial! (a ∷ u ∷ b ∷ v ∷ []) (search claims depth 40) (omega arith)
-
-  pub through-second : (v -ℤ u) *ℤ b +ℤ (u *ℤ b -ℤ v *ℤ a) ≡ (b -ℤ a) *ℤ v
-  through-second = polynomial! (a ∷ u ∷ b ∷ v ∷ []) (search claims depth 40) (omega arith)
-
-pub pair-fits : (r s : Range) → Ordered (r ∷ s ∷ []) → InFit (r ∷ s ∷ []) (through (r .time) (r .low) (s .time) (s .low))
-unfolding through reading
-pair-fits r s o =
-    let h = through-positive (r .time) (s .time) (r .low) (s .low) (All-head (o .1)) in
-    record {
-      positive = h;
-      each = cons (fits-at-low h (o .0) (through-first (pos (r .time)) (r .low) (pos (s .time)) (s .low))) (cons (fits-at-low h (o .2 .0) (through-second (pos (r .time)) (r .low) (pos (s .time)) (s .low))) nil);
-    }
-
-pub pair-has-line : (r s : Range) → Ordered (r ∷ s ∷ []) → HasLine (r ∷ s ∷ [])
-pair-has-line r s o = record { line = through (r .time) (r .low) (s .time) (s .low); fit = pair-fits r s o }
 
 -- ---- consecutive parts
 pub InFit-append : {xs ys : List Range} {l : Line} → InFit xs l → InFit ys l → InFit (xs ++ ys) l

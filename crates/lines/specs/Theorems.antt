@@ -44,7 +44,8 @@ use Rattle.splits.specs.OrderedRanges.{firstTimeOf, lastTimeOf}
 use Rattle.splits.specs.RunTimes.{inSpan}
 use Rattle.splits.specs.Segments.{TimesOf, TwoWithout}
 use Rattle.splits.specs.Segments as Splits
-use Rattle.lines.specs.HasLine.{every-slope, pair-has-line}
+use Rattle.chains.specs.Results.{two-have-line}
+use Rattle.lines.specs.HasLine.{every-slope}
 use Rattle.lines.specs.CornerList as List01
 use Rattle.lines.specs.Polygon.{corners-of, decides, closes}
 
@@ -57,7 +58,7 @@ pub one-range-open : (r : Range) → Ordered (r ∷ []) → (p d : ℤ) → pos 
 one-range-open r o = every-slope r (o .0)
 
 pub two-ranges : (r s : Range) → Ordered (r ∷ s ∷ []) → HasLine (r ∷ s ∷ [])
-two-ranges = pair-has-line
+two-ranges = two-have-line
 
 -- ---- the corners
 
