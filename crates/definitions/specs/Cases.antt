@@ -18,7 +18,7 @@ use Rattle.definitions.specs.Spans.{segmentRoom, cornerRoom, readRoom}
 use Rattle.definitions.specs.Times.{none, at}
 use Rattle.definitions.specs.Ranges.{Range, Lists, zipRanges, rangesOf}
 use Rattle.definitions.specs.Lines.{Line, reading, fitsRange, fits, sideAt, notBelow, atOrAbove, through, throughEnds, candidatesFrom, candidates, hasLine}
-use Rattle.definitions.specs.Corners.{reduced, eqZ, before, side, between, betweenSome, fitting, extreme, cornerOrder, corners}
+use Rattle.definitions.specs.Corners.{reduced, before, side, between, betweenSome, fitting, extreme, cornerOrder, corners}
 use Rattle.definitions.specs.Splits.{cutFrom, cut, lastRun}
 use Rattle.definitions.specs.Segments.{segments, runningAfter}
 use Rattle.definitions.specs.Outlook.{someTime, allTime, Outlook, open-strip, lines, outlookOf, endTime, outlook}
@@ -130,5 +130,5 @@ table =
     ∷ []
 
 pub table-holds : map (λ c. run (callOf c)) table ≡ map resultOf table
-unfolding table run callOf resultOf all any filter reading fitsRange fits sideAt notBelow atOrAbove through throughEnds candidatesFrom candidates hasLine euclid gcd commonDivisor reduced eqZ before side between betweenSome insert sorted fitting extreme getLastD cornerOrder corners cutFrom cut lastRun segments runningAfter scan firstByEnds first someTime allTime outlookOf endTime outlook segmentOf segmentsOf _>>=_ firstRow outside badAddress notAbove rangeRows rangesRows tooShort zipRanges rangesOf differ listRows segmentRows cornerRows word signed header takeField addressOf levelOf rangeOf addressRows levelRows readRanges readFile fitOf readCall segmentCall cornersCall
+unfolding table run callOf resultOf all any filter reading fitsRange fits sideAt notBelow atOrAbove through throughEnds candidatesFrom candidates hasLine euclid gcd commonDivisor reduced before side between betweenSome insert sorted fitting extreme getLastD cornerOrder corners cutFrom cut lastRun segments runningAfter scan firstByEnds first someTime allTime outlookOf endTime outlook segmentOf segmentsOf _>>=_ firstRow outside badAddress notAbove rangeRows rangesRows tooShort zipRanges rangesOf differ listRows segmentRows cornerRows word signed header takeField addressOf levelOf rangeOf addressRows levelRows readRanges readFile fitOf readCall segmentCall cornersCall
 table-holds = refl

@@ -14,6 +14,7 @@ use mathlib.Core.Bool.{Bool, not, _&&_, _||_}
 use mathlib.Core.List.{List, [], _∷_, _++_, map, reverse, getLastD}
 use lib.IntN.{ℤ, pos, _+ℤ_, _-ℤ_, _*ℤ_}
 use lib.Signed.{ltZ, leZ, quotZ}
+use Rattle.integers.specs.Tests.{eqZ}
 use Rattle.integers.specs.Lists.{any, filter}
 use Rattle.integers.specs.Sorting.{sorted}
 use Rattle.integers.specs.LowestTerms.{commonDivisor}
@@ -26,10 +27,6 @@ reduced l =
     record { p = quotZ (l .p) g; q = quotZ (l .q) g; d = quotZ (l .d) g }
 
 -- ---- the order of lines
-
--- equal whole numbers
-unfoldable pub eqZ : ℤ → ℤ → Bool
-eqZ x y = leZ x y && leZ y x
 
 -- p/d of k against p/d of l, each way cross-multiplied, and q/d where these are equal
 unfoldable pub before : Line → Line → Bool

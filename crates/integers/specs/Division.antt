@@ -1,18 +1,25 @@
--- The signed quotient and remainder of lib.Signed, rounded toward zero: what they are, by products and bounds.
+-- The signed quotient and remainder of a machine, rounded toward zero, by products and bounds. `quotZ n d` and `remZ n d` are the library's; d is positive.
+--
+--     quot-rem n d h         h : 0 < d gives quotZ n d · d + remZ n d = n
+--     rem-below, rem-above   remZ n d < d and −d < remZ n d: `rem-below n d h : remZ n d <ℤ d`
+--     rem-nonneg             0 ≤ remZ n d where 0 ≤ n: `rem-nonneg n d k : pos 0 ≤ℤ remZ n d`
+--     in-quot, in-rem        neither is larger than n: `in-quot d h : Within A (quotZ n d)` from h : Within A n
+--     bits-pos               the divisor is not 0, as the operation asks: `bits-pos w64 h : 0 < ofZ w64 d`
+--
+-- Use: the quotient is no polynomial, so a proof lists `quotZ n d` and `remZ n d` as integers of their own, with `quot-rem` and the bounds as facts.
 -- Assumes nothing.
-use mathlib.Core.Path.{_≡_, refl, sym, _∙_, ap, subst}
-use Prim.Native.Nat.{ℕ, zero, suc, _+_, _*_, _/_, _%_, _≤_, _<_}
+use mathlib.Core.Path.{_≡_, _∙_, ap}
+use Prim.Native.Nat.{ℕ, suc, _*_, _/_, _%_, _≤_, _<_}
 use native.Mathlib.Nat as NatL
 use native.Mathlib.Omega.{arith}
-use lib.IntN.{ℤ, pos, negsuc, negℤ, natAbs, _+ℤ_, _-ℤ_, _*ℤ_}
+use lib.IntN.{ℤ, pos, negsuc, negℤ, natAbs, _+ℤ_, _*ℤ_}
 use lib.Signed.{_≤ℤ_, _<ℤ_, quotZ, remZ}
-use Rattle.integers.specs.Parts.{posPart, negPart, parts-add, parts-sub, parts-mul, posPart-neg, negPart-neg, ints, ≡-fromℕ}
+use Rattle.integers.specs.Parts.{parts-add, posPart-neg, negPart-neg, ints, ≡-fromℕ}
 use Rattle.integers.specs.RingLaws.{neg-*ℤ}
 use Rattle.integers.specs.Bounds.{Within, abs-neg-is}
 use mir.Syntax.{Width}
 use mir.Val.{ofZ}
 
--- q · d + r = n, for d > 0
 pub quot-rem : (n d : ℤ) → pos 0 <ℤ d → quotZ n d *ℤ d +ℤ remZ n d ≡ n
 quot-rem (pos a) (pos b) h = ap pos (NatL.div-add-mod' a b)
 quot-rem (negsuc a) (pos b) h =
@@ -53,7 +60,6 @@ rem-abs (negsuc a) d = omega (arith, abs-neg-is (pos (suc a % natAbs d)), NatL.m
 pub in-rem : {n : ℤ} {A : ℕ} (d : ℤ) → Within A n → Within A (remZ n d)
 in-rem {n} d h = record { within = omega (arith, rem-abs n d) }
 
--- the divisor's bits are not 0
 pub bits-pos : {d : ℤ} (w : Width) → pos 0 <ℤ d → 0 < ofZ w d
 bits-pos {d = pos n} w h = omega ints
 bits-pos {d = negsuc n} w h = absurd (h .lt)

@@ -1,16 +1,24 @@
--- A decision procedure for identities of commutative rings over ℤ, by computation: `ring ρ a b tt : eval ρ a ≡ eval ρ b`.
---     Expr      a polynomial as it is written, over variables by index
---     Poly      its normal form: `node p q` at the environment x ∷ ρ is p(ρ) + x · q(x ∷ ρ)
+-- A decision procedure for identities of commutative rings over ℤ, by computation. A polynomial is brought to a normal form, and two polynomials are equal where their difference has the normal form 0.
+--
+--     Expr, var, lit, _:+_, _:-_, _:*_, :neg   a polynomial as it is written, over variables by index
+--     eval ρ e                                 its value where ρ lists the variables' values
+--     Poly, con, node, normal                  normal forms: `node p q` at x ∷ ρ is p(ρ) + x · q(x ∷ ρ)
+--     evalPoly, normal-ok                      a normal form's value, which is the expression's
+--     zero?, both, both-l, both-r              the test for 0, and the conjunction it is made with
+--     poly-zero, ring                          an expression that is 0, and two that are equal, at every ρ
+--     one-*ℤ, diff-zero                        1 · x = x, and x = y from x − y = 0
+--
+-- Example: `ring (a ∷ b ∷ []) ((var 0 :+ var 1) :* (var 0 :- var 1)) (var 0 :* var 0 :- var 1 :* var 1) tt : (a +ℤ b) *ℤ (a -ℤ b) ≡ a *ℤ a -ℤ b *ℤ b`. `ring!` of `Quotes` writes the expressions by itself.
 -- Assumes nothing.
-use mathlib.Core.Path.{_≡_, refl, sym, _∙_, ap, ap₂, subst}
+use mathlib.Core.Path.{_≡_, refl, sym, _∙_, ap, ap₂}
 use mathlib.Core.Bool.{Bool, true, false}
 use mathlib.Core.List.{List, [], _∷_}
-use Prim.Native.Nat.{ℕ, zero, suc, _+_, _*_}
+use Prim.Native.Nat.{ℕ, zero, suc}
 use native.Mathlib.Omega.{arith}
 use lib.Dec.{T}
-use lib.IntN.{ℤ, pos, negsuc, negℤ, _+ℤ_, _-ℤ_, _*ℤ_, +ℤ-idl, +ℤ-idr, +ℤ-assoc, +ℤ-comm, +ℤ-invr, *ℤ-comm, zero-*ℤ, *ℤ-zero}
-use Rattle.integers.specs.Parts.{posPart, negPart, ≡-fromℕ, parts-sub, parts-mul, ≡-toℕ}
-use Rattle.integers.specs.RingLaws.{⊖-ind, ⊖-eq, ⊖-+, ⊖-*, ⊖-neg, _⊖_, *ℤ-assoc, *ℤ-+, +-*ℤ, neg-*ℤ, *ℤ-neg}
+use lib.IntN.{ℤ, pos, negsuc, negℤ, _+ℤ_, _-ℤ_, _*ℤ_, +ℤ-idl, +ℤ-idr, +ℤ-assoc, +ℤ-comm, *ℤ-comm, zero-*ℤ, *ℤ-zero}
+use Rattle.integers.specs.Parts.{≡-fromℕ, parts-sub, parts-mul, ≡-toℕ}
+use Rattle.integers.specs.RingLaws.{⊖-ind, ⊖-eq, ⊖-+, ⊖-*, ⊖-neg}
 
 infixl 75 _:+_ _:-_
 infixl 80 _:*_
@@ -111,84 +119,81 @@ zero? (con (negsuc n)) = false
 zero? (node p q) = both (zero? p) (zero? q)
 
 -- ---- it is sound
-pub one-l : (x : ℤ) → pos 1 *ℤ x ≡ x
-one-l x = ≡-fromℕ (pos 1 *ℤ x) x (omega (arith, parts-mul (pos 1) x))
+pub one-*ℤ : (x : ℤ) → pos 1 *ℤ x ≡ x
+one-*ℤ x = ≡-fromℕ (pos 1 *ℤ x) x (omega (arith, parts-mul (pos 1) x))
 
-r1 : (c x y : ℤ) → c +ℤ (x +ℤ y) ≡ c +ℤ x +ℤ y
-r1 c x y = sym (+ℤ-assoc c x y)
+-- what the solver's steps do to a node's value p + x · q
+node-plus : (p x q p′ q′ : ℤ) → (p +ℤ p′) +ℤ x *ℤ (q +ℤ q′) ≡ p +ℤ x *ℤ q +ℤ (p′ +ℤ x *ℤ q′)
+node-plus = ⊖-ind _ λ a b. ⊖-ind _ λ c d. ⊖-ind _ λ e f. ⊖-ind _ λ g h. ⊖-ind _ λ i j. simp (⊖-*, ⊖-+) (⊖-eq _ _ _ _ (omega arith))
 
--- p + x q + (p′ + x q′)
-r2 : (p x q p′ q′ : ℤ) → (p +ℤ p′) +ℤ x *ℤ (q +ℤ q′) ≡ p +ℤ x *ℤ q +ℤ (p′ +ℤ x *ℤ q′)
-r2 = ⊖-ind _ λ a b. ⊖-ind _ λ c d. ⊖-ind _ λ e f. ⊖-ind _ λ g h. ⊖-ind _ λ i j. simp (⊖-*, ⊖-+) (⊖-eq _ _ _ _ (omega arith))
+node-scale : (k p x q : ℤ) → k *ℤ p +ℤ x *ℤ (k *ℤ q) ≡ k *ℤ (p +ℤ x *ℤ q)
+node-scale = ⊖-ind _ λ a b. ⊖-ind _ λ c d. ⊖-ind _ λ e f. ⊖-ind _ λ g h. simp (⊖-*, ⊖-+) (⊖-eq _ _ _ _ (omega arith))
 
-r3 : (k p x q : ℤ) → k *ℤ p +ℤ x *ℤ (k *ℤ q) ≡ k *ℤ (p +ℤ x *ℤ q)
-r3 = ⊖-ind _ λ a b. ⊖-ind _ λ c d. ⊖-ind _ λ e f. ⊖-ind _ λ g h. simp (⊖-*, ⊖-+) (⊖-eq _ _ _ _ (omega arith))
+node-times : (p x q r : ℤ) → p *ℤ r +ℤ x *ℤ (q *ℤ r) ≡ (p +ℤ x *ℤ q) *ℤ r
+node-times = ⊖-ind _ λ a b. ⊖-ind _ λ c d. ⊖-ind _ λ e f. ⊖-ind _ λ g h. simp (⊖-*, ⊖-+) (⊖-eq _ _ _ _ (omega arith))
 
-r4 : (p x q r : ℤ) → p *ℤ r +ℤ x *ℤ (q *ℤ r) ≡ (p +ℤ x *ℤ q) *ℤ r
-r4 = ⊖-ind _ λ a b. ⊖-ind _ λ c d. ⊖-ind _ λ e f. ⊖-ind _ λ g h. simp (⊖-*, ⊖-+) (⊖-eq _ _ _ _ (omega arith))
+node-neg : (p x q : ℤ) → negℤ p +ℤ x *ℤ negℤ q ≡ negℤ (p +ℤ x *ℤ q)
+node-neg = ⊖-ind _ λ a b. ⊖-ind _ λ c d. ⊖-ind _ λ e f. simp (⊖-*, ⊖-+, ⊖-neg) (⊖-eq _ _ _ _ (omega arith))
 
-r5 : (p x q : ℤ) → negℤ p +ℤ x *ℤ negℤ q ≡ negℤ (p +ℤ x *ℤ q)
-r5 = ⊖-ind _ λ a b. ⊖-ind _ λ c d. ⊖-ind _ λ e f. simp (⊖-*, ⊖-+, ⊖-neg) (⊖-eq _ _ _ _ (omega arith))
+plus-times-zero : (p x : ℤ) → p ≡ p +ℤ x *ℤ pos 0
+plus-times-zero p x = sym (ap (λ z. p +ℤ z) (*ℤ-zero x) ∙ +ℤ-idr p)
 
-x0 : (p x : ℤ) → p ≡ p +ℤ x *ℤ pos 0
-x0 p x = sym (ap (λ z. p +ℤ z) (*ℤ-zero x) ∙ +ℤ-idr p)
+addConst-ok : (ρ : List ℤ) (c : ℤ) (q : Poly) → evalPoly ρ (addConst c q) ≡ c +ℤ headOr0 ρ *ℤ evalPoly ρ q
+addConst-ok ρ c (con (pos zero)) = plus-times-zero c (headOr0 ρ)
+addConst-ok ρ c (con (pos (suc n))) = refl
+addConst-ok ρ c (con (negsuc n)) = refl
+addConst-ok ρ c (node p q) = refl
 
-mkc-ok : (ρ : List ℤ) (c : ℤ) (q : Poly) → evalPoly ρ (addConst c q) ≡ c +ℤ headOr0 ρ *ℤ evalPoly ρ q
-mkc-ok ρ c (con (pos zero)) = x0 c (headOr0 ρ)
-mkc-ok ρ c (con (pos (suc n))) = refl
-mkc-ok ρ c (con (negsuc n)) = refl
-mkc-ok ρ c (node p q) = refl
+polyNode-ok : (ρ : List ℤ) (p q : Poly) → evalPoly ρ (polyNode p q) ≡ evalPoly (tailOf ρ) p +ℤ headOr0 ρ *ℤ evalPoly ρ q
+polyNode-ok ρ (con c) q = addConst-ok ρ c q
+polyNode-ok ρ (node p p′) q = refl
 
-mk-ok : (ρ : List ℤ) (p q : Poly) → evalPoly ρ (polyNode p q) ≡ evalPoly (tailOf ρ) p +ℤ headOr0 ρ *ℤ evalPoly ρ q
-mk-ok ρ (con c) q = mkc-ok ρ c q
-mk-ok ρ (node p p′) q = refl
+plusConst-ok : (ρ : List ℤ) (c : ℤ) (p : Poly) → evalPoly ρ (plusConst c p) ≡ c +ℤ evalPoly ρ p
+plusConst-ok ρ c (con d) = refl
+plusConst-ok ρ c (node p q) = ap (λ z. z +ℤ headOr0 ρ *ℤ evalPoly ρ q) (plusConst-ok (tailOf ρ) c p) ∙ +ℤ-assoc c (evalPoly (tailOf ρ) p) (headOr0 ρ *ℤ evalPoly ρ q)
 
-addC-ok : (ρ : List ℤ) (c : ℤ) (p : Poly) → evalPoly ρ (plusConst c p) ≡ c +ℤ evalPoly ρ p
-addC-ok ρ c (con d) = refl
-addC-ok ρ c (node p q) = ap (λ z. z +ℤ headOr0 ρ *ℤ evalPoly ρ q) (addC-ok (tailOf ρ) c p) ∙ sym (r1 c (evalPoly (tailOf ρ) p) (headOr0 ρ *ℤ evalPoly ρ q))
+plusPoly-ok : (ρ : List ℤ) (p q : Poly) → evalPoly ρ (plusPoly p q) ≡ evalPoly ρ p +ℤ evalPoly ρ q
+plusPoly-ok ρ (con c) q = plusConst-ok ρ c q
+plusPoly-ok ρ (node p q) (con d) = plusConst-ok ρ d (node p q) ∙ +ℤ-comm d (evalPoly ρ (node p q))
+plusPoly-ok ρ (node p q) (node p′ q′) =
+    polyNode-ok ρ (plusPoly p p′) (plusPoly q q′) ∙ ap₂ (λ a b. a +ℤ headOr0 ρ *ℤ b) (plusPoly-ok (tailOf ρ) p p′) (plusPoly-ok ρ q q′)
+    ∙ node-plus (evalPoly (tailOf ρ) p) (headOr0 ρ) (evalPoly ρ q) (evalPoly (tailOf ρ) p′) (evalPoly ρ q′)
 
-addP-ok : (ρ : List ℤ) (p q : Poly) → evalPoly ρ (plusPoly p q) ≡ evalPoly ρ p +ℤ evalPoly ρ q
-addP-ok ρ (con c) q = addC-ok ρ c q
-addP-ok ρ (node p q) (con d) = addC-ok ρ d (node p q) ∙ +ℤ-comm d (evalPoly ρ (node p q))
-addP-ok ρ (node p q) (node p′ q′) =
-    mk-ok ρ (plusPoly p p′) (plusPoly q q′) ∙ ap₂ (λ a b. a +ℤ headOr0 ρ *ℤ b) (addP-ok (tailOf ρ) p p′) (addP-ok ρ q q′)
-    ∙ r2 (evalPoly (tailOf ρ) p) (headOr0 ρ) (evalPoly ρ q) (evalPoly (tailOf ρ) p′) (evalPoly ρ q′)
+mapCoeffs-scale-ok : (k : ℤ) (ρ : List ℤ) (p : Poly) → evalPoly ρ (mapCoeffs (λ d. k *ℤ d) p) ≡ k *ℤ evalPoly ρ p
+mapCoeffs-scale-ok k ρ (con d) = refl
+mapCoeffs-scale-ok k ρ (node p q) = ap₂ (λ a b. a +ℤ headOr0 ρ *ℤ b) (mapCoeffs-scale-ok k (tailOf ρ) p) (mapCoeffs-scale-ok k ρ q) ∙ node-scale k (evalPoly (tailOf ρ) p) (headOr0 ρ) (evalPoly ρ q)
 
-mapK-ok : (k : ℤ) (ρ : List ℤ) (p : Poly) → evalPoly ρ (mapCoeffs (λ d. k *ℤ d) p) ≡ k *ℤ evalPoly ρ p
-mapK-ok k ρ (con d) = refl
-mapK-ok k ρ (node p q) = ap₂ (λ a b. a +ℤ headOr0 ρ *ℤ b) (mapK-ok k (tailOf ρ) p) (mapK-ok k ρ q) ∙ r3 k (evalPoly (tailOf ρ) p) (headOr0 ρ) (evalPoly ρ q)
+mapCoeffs-neg-ok : (ρ : List ℤ) (p : Poly) → evalPoly ρ (mapCoeffs negℤ p) ≡ negℤ (evalPoly ρ p)
+mapCoeffs-neg-ok ρ (con d) = refl
+mapCoeffs-neg-ok ρ (node p q) = ap₂ (λ a b. a +ℤ headOr0 ρ *ℤ b) (mapCoeffs-neg-ok (tailOf ρ) p) (mapCoeffs-neg-ok ρ q) ∙ node-neg (evalPoly (tailOf ρ) p) (headOr0 ρ) (evalPoly ρ q)
 
-neg-ok : (ρ : List ℤ) (p : Poly) → evalPoly ρ (mapCoeffs negℤ p) ≡ negℤ (evalPoly ρ p)
-neg-ok ρ (con d) = refl
-neg-ok ρ (node p q) = ap₂ (λ a b. a +ℤ headOr0 ρ *ℤ b) (neg-ok (tailOf ρ) p) (neg-ok ρ q) ∙ r5 (evalPoly (tailOf ρ) p) (headOr0 ρ) (evalPoly ρ q)
+scalePoly-ok : (c : ℤ) (ρ : List ℤ) (p : Poly) → evalPoly ρ (scalePoly c p) ≡ c *ℤ evalPoly ρ p
+scalePoly-ok (pos zero) ρ p = sym (zero-*ℤ (evalPoly ρ p))
+scalePoly-ok (pos (suc n)) ρ p = mapCoeffs-scale-ok (pos (suc n)) ρ p
+scalePoly-ok (negsuc n) ρ p = mapCoeffs-scale-ok (negsuc n) ρ p
 
-scale-ok : (c : ℤ) (ρ : List ℤ) (p : Poly) → evalPoly ρ (scalePoly c p) ≡ c *ℤ evalPoly ρ p
-scale-ok (pos zero) ρ p = sym (zero-*ℤ (evalPoly ρ p))
-scale-ok (pos (suc n)) ρ p = mapK-ok (pos (suc n)) ρ p
-scale-ok (negsuc n) ρ p = mapK-ok (negsuc n) ρ p
+timesEach-ok : (ρ : List ℤ) (k : ℤ) (f : Poly → Poly) → ((r : Poly) → evalPoly (tailOf ρ) (f r) ≡ k *ℤ evalPoly (tailOf ρ) r) → (r : Poly) → evalPoly ρ (timesEach f r) ≡ k *ℤ evalPoly ρ r
+timesEach-ok ρ k f h (con d) = polyNode-ok ρ (f (con d)) (con (pos zero)) ∙ sym (plus-times-zero (evalPoly (tailOf ρ) (f (con d))) (headOr0 ρ)) ∙ h (con d)
+timesEach-ok ρ k f h (node r s) = polyNode-ok ρ (f r) (timesEach f s) ∙ ap₂ (λ a b. a +ℤ headOr0 ρ *ℤ b) (h r) (timesEach-ok ρ k f h s) ∙ node-scale k (evalPoly (tailOf ρ) r) (headOr0 ρ) (evalPoly ρ s)
 
-mulL-ok : (ρ : List ℤ) (k : ℤ) (f : Poly → Poly) → ((r : Poly) → evalPoly (tailOf ρ) (f r) ≡ k *ℤ evalPoly (tailOf ρ) r) → (r : Poly) → evalPoly ρ (timesEach f r) ≡ k *ℤ evalPoly ρ r
-mulL-ok ρ k f h (con d) = mk-ok ρ (f (con d)) (con (pos zero)) ∙ sym (x0 (evalPoly (tailOf ρ) (f (con d))) (headOr0 ρ)) ∙ h (con d)
-mulL-ok ρ k f h (node r s) = mk-ok ρ (f r) (timesEach f s) ∙ ap₂ (λ a b. a +ℤ headOr0 ρ *ℤ b) (h r) (mulL-ok ρ k f h s) ∙ r3 k (evalPoly (tailOf ρ) r) (headOr0 ρ) (evalPoly ρ s)
+timesPoly-ok : (ρ : List ℤ) (p q : Poly) → evalPoly ρ (timesPoly p q) ≡ evalPoly ρ p *ℤ evalPoly ρ q
+timesPoly-ok ρ (con c) r = scalePoly-ok c ρ r
+timesPoly-ok ρ (node p q) r =
+    plusPoly-ok ρ (timesEach (timesPoly p) r) (addConst (pos zero) (timesPoly q r))
+    ∙ ap₂ (λ a b. a +ℤ b) (timesEach-ok ρ (evalPoly (tailOf ρ) p) (timesPoly p) (timesPoly-ok (tailOf ρ) p) r) (addConst-ok ρ (pos zero) (timesPoly q r) ∙ +ℤ-idl (headOr0 ρ *ℤ evalPoly ρ (timesPoly q r)) ∙ ap (λ z. headOr0 ρ *ℤ z) (timesPoly-ok ρ q r))
+    ∙ node-times (evalPoly (tailOf ρ) p) (headOr0 ρ) (evalPoly ρ q) (evalPoly ρ r)
 
-mulP-ok : (ρ : List ℤ) (p q : Poly) → evalPoly ρ (timesPoly p q) ≡ evalPoly ρ p *ℤ evalPoly ρ q
-mulP-ok ρ (con c) r = scale-ok c ρ r
-mulP-ok ρ (node p q) r =
-    addP-ok ρ (timesEach (timesPoly p) r) (addConst (pos zero) (timesPoly q r))
-    ∙ ap₂ (λ a b. a +ℤ b) (mulL-ok ρ (evalPoly (tailOf ρ) p) (timesPoly p) (mulP-ok (tailOf ρ) p) r) (mkc-ok ρ (pos zero) (timesPoly q r) ∙ +ℤ-idl (headOr0 ρ *ℤ evalPoly ρ (timesPoly q r)) ∙ ap (λ z. headOr0 ρ *ℤ z) (mulP-ok ρ q r))
-    ∙ r4 (evalPoly (tailOf ρ) p) (headOr0 ρ) (evalPoly ρ q) (evalPoly ρ r)
-
-varP-ok : (ρ : List ℤ) (i : ℕ) → evalPoly ρ (varPoly i) ≡ lookup i ρ
-varP-ok ρ zero = +ℤ-idl (headOr0 ρ *ℤ pos 1) ∙ *ℤ-comm (headOr0 ρ) (pos 1) ∙ one-l (headOr0 ρ)
-varP-ok ρ (suc i) = sym (x0 (evalPoly (tailOf ρ) (varPoly i)) (headOr0 ρ)) ∙ varP-ok (tailOf ρ) i
+varPoly-ok : (ρ : List ℤ) (i : ℕ) → evalPoly ρ (varPoly i) ≡ lookup i ρ
+varPoly-ok ρ zero = +ℤ-idl (headOr0 ρ *ℤ pos 1) ∙ *ℤ-comm (headOr0 ρ) (pos 1) ∙ one-*ℤ (headOr0 ρ)
+varPoly-ok ρ (suc i) = sym (plus-times-zero (evalPoly (tailOf ρ) (varPoly i)) (headOr0 ρ)) ∙ varPoly-ok (tailOf ρ) i
 
 pub normal-ok : (ρ : List ℤ) (e : Expr) → evalPoly ρ (normal e) ≡ eval ρ e
-normal-ok ρ (var i) = varP-ok ρ i
+normal-ok ρ (var i) = varPoly-ok ρ i
 normal-ok ρ (lit c) = refl
-normal-ok ρ (a :+ b) = addP-ok ρ (normal a) (normal b) ∙ ap₂ (λ x y. x +ℤ y) (normal-ok ρ a) (normal-ok ρ b)
-normal-ok ρ (a :- b) = addP-ok ρ (normal a) (mapCoeffs negℤ (normal b)) ∙ ap₂ (λ x y. x +ℤ y) (normal-ok ρ a) (neg-ok ρ (normal b) ∙ ap negℤ (normal-ok ρ b))
-normal-ok ρ (a :* b) = mulP-ok ρ (normal a) (normal b) ∙ ap₂ (λ x y. x *ℤ y) (normal-ok ρ a) (normal-ok ρ b)
-normal-ok ρ (:neg a) = neg-ok ρ (normal a) ∙ ap negℤ (normal-ok ρ a)
+normal-ok ρ (a :+ b) = plusPoly-ok ρ (normal a) (normal b) ∙ ap₂ (λ x y. x +ℤ y) (normal-ok ρ a) (normal-ok ρ b)
+normal-ok ρ (a :- b) = plusPoly-ok ρ (normal a) (mapCoeffs negℤ (normal b)) ∙ ap₂ (λ x y. x +ℤ y) (normal-ok ρ a) (mapCoeffs-neg-ok ρ (normal b) ∙ ap negℤ (normal-ok ρ b))
+normal-ok ρ (a :* b) = timesPoly-ok ρ (normal a) (normal b) ∙ ap₂ (λ x y. x *ℤ y) (normal-ok ρ a) (normal-ok ρ b)
+normal-ok ρ (:neg a) = mapCoeffs-neg-ok ρ (normal a) ∙ ap negℤ (normal-ok ρ a)
 
 pub both-l : (a b : Bool) → T (both a b) → T a
 both-l true b t = tt
@@ -214,13 +219,3 @@ poly-zero ρ e t = sym (normal-ok ρ e) ∙ zero?-ok ρ (normal e) t
 
 pub ring : (ρ : List ℤ) (a b : Expr) → T (zero? (normal (a :- b))) → eval ρ a ≡ eval ρ b
 ring ρ a b t = diff-zero (eval ρ a) (eval ρ b) (sym (normal-ok ρ (a :- b)) ∙ zero?-ok ρ (normal (a :- b)) t)
-
--- ---- examples
-ex1 : (a b : ℤ) → (a +ℤ b) *ℤ (a -ℤ b) ≡ a *ℤ a -ℤ b *ℤ b
-ex1 a b = ring (a ∷ b ∷ []) ((A :+ B) :* (A :- B)) (A :* A :- B :* B) tt
-  where
-    A : Expr
-    A = var 0
-
-    B : Expr
-    B = var 1

@@ -11,7 +11,6 @@
 --     precedes-distinct                      then they are not the same line
 --     line-order                             `before` is a strict order of the lines in lowest terms, as `Sorting` of integers wants it
 --     equal-below, below-equal               of fractions a/d, b/e, c/f: the first is below the third where it is equal to or below the second, which is below or equal to the third
---     eqZ-means, eqZ-passes                  the test of equality
 --
 --     SameOrder x y x′ y′                    x is to y as x′ is to y′: below, equal or above; order-≤, order-<, order-flip
 --     Restates l m                           l and m are the same line, both with d above 0; restates-refl, restates-sym, reduced-restates: a line and its lowest terms
@@ -33,13 +32,14 @@ use Rattle.integers.specs.RingSolver.{var, lit, :neg, _:*_}
 use Rattle.integers.specs.Certificates.{hyp, num, eqn, _⊞_, _⊠_}
 use Rattle.integers.specs.Quotes.{quotes, ring! }
 use Rattle.integers.specs.Solve.{claims, certify! }
+use Rattle.integers.specs.Tests.{eqZ, eqZ-yes, eqZ-of}
 use Rattle.integers.specs.Booleans.{and-intro, and-left, and-right, or-left, or-right, or-cases}
 use Rattle.integers.specs.Lists.{All-imp}
 use Rattle.integers.specs.Sorting.{StrictOrder}
 use Rattle.integers.specs.LowestTerms.{InLowestTerms, lowest-unique, divided-lowest}
 use Rattle.definitions.specs.Ranges.{Range}
 use Rattle.definitions.specs.Lines.{Line, reading}
-use Rattle.definitions.specs.Corners.{reduced, before, eqZ, side}
+use Rattle.definitions.specs.Corners.{reduced, before, side}
 use Rattle.definitions.specs.Fit.{FitsRange, InFit, SameLine, SlopeBelow, Reaches}
 
 -- ---- fractions a/d, b/e, c/f
@@ -106,14 +106,6 @@ pub data Precedes (k l : Line) : Type 0 where
   by-slope : SlopeBelow k l → Precedes k l
   by-intercept : k .p *ℤ l .d ≡ l .p *ℤ k .d → (k .q *ℤ l .d) <ℤ (l .q *ℤ k .d) → Precedes k l
 
-pub eqZ-means : (x y : ℤ) → T (eqZ x y) → x ≡ y
-unfolding eqZ
-eqZ-means x y t = ≤ℤ-antisym (record { le = and-left (leZ x y) (leZ y x) t }) (record { le = and-right (leZ x y) (leZ y x) t })
-
-pub eqZ-passes : {x y : ℤ} → x ≡ y → T (eqZ x y)
-unfolding eqZ
-eqZ-passes {x} {y} e = and-intro (leZ x y) (leZ y x) (≤ℤ-of-≡ e .le) (≤ℤ-of-≡ (sym e) .le)
-
 module _ (k l : Line) where
   abbrev lower-slope : Bool
   lower-slope = ltZ (k .p *ℤ l .d) (l .p *ℤ k .d)
@@ -130,12 +122,12 @@ module _ (k l : Line) where
     where
       by : T lower-slope ⊎ T (same-slope && lower-intercept) → Precedes k l
       by (inl s) = by-slope (record { lt = s })
-      by (inr s) = by-intercept (eqZ-means (k .p *ℤ l .d) (l .p *ℤ k .d) (and-left same-slope lower-intercept s)) (record { lt = and-right same-slope lower-intercept s })
+      by (inr s) = by-intercept (eqZ-yes (and-left same-slope lower-intercept s)) (record { lt = and-right same-slope lower-intercept s })
 
   pub before-passes : Precedes k l → T (before k l)
   unfolding before
   before-passes (by-slope h) = or-left lower-slope (same-slope && lower-intercept) (h .lt)
-  before-passes (by-intercept e h) = or-right lower-slope (same-slope && lower-intercept) (and-intro same-slope lower-intercept (eqZ-passes e) (h .lt))
+  before-passes (by-intercept e h) = or-right lower-slope (same-slope && lower-intercept) (and-intro same-slope lower-intercept (eqZ-of e) (h .lt))
 
 precedes-irrefl : (l : Line) → ¬ Precedes l l
 precedes-irrefl l (by-slope h) = <ℤ-irrefl h

@@ -21,14 +21,15 @@ use Rattle.integers.specs.RingSolver.{var, lit, :neg, _:*_, _:-_}
 use Rattle.integers.specs.Certificates.{hyp, num, eqn, _⊞_, _⊠_}
 use Rattle.integers.specs.Quotes.{quotes, ring! }
 use Rattle.integers.specs.Solve.{claims, certify! }
+use Rattle.integers.specs.Tests.{eqZ, eqZ-yes}
 use Rattle.integers.specs.Booleans.{and-left, and-right}
 use Rattle.integers.specs.Lists.{All, nil, cons}
 use Rattle.integers.specs.Divides.{abs-above-0}
 use Rattle.definitions.specs.Ranges.{Range}
 use Rattle.definitions.specs.Lines.{Line}
-use Rattle.definitions.specs.Corners.{reduced, before, eqZ, side, between}
+use Rattle.definitions.specs.Corners.{reduced, before, side, between}
 use Rattle.definitions.specs.Fit.{SameLine, total, weightedSum, MeanOf, IsMean, WeightedMean, StrictlyBetween, Corner}
-use Rattle.lines.specs.LineOrder.{Positive, Restates, restates-sym, same-trans, same-sym, reduced-restates, InFit-same, Precedes, by-slope, by-intercept, before-means, precedes-distinct, eqZ-means, below-equal, equal-below}
+use Rattle.lines.specs.LineOrder.{Positive, Restates, restates-sym, same-trans, same-sym, reduced-restates, InFit-same, Precedes, by-slope, by-intercept, before-means, precedes-distinct, below-equal, equal-below}
 
 -- ---- the mean of lines in other terms
 
@@ -227,4 +228,4 @@ module _ {j k l : Line} (j-over : Positive j) (k-over : Positive k) (l-over : Po
       k-after = before-means l k (and-left (before l k) (eqZ (side j k l) (pos 0)) more)
 
       m : Weights (λ x. x .p) (λ x. x .q) j k l
-      m = between-weights j-before k-after (eqZ-means (side j k l) (pos 0) (and-right (before l k) (eqZ (side j k l) (pos 0)) more))
+      m = between-weights j-before k-after (eqZ-yes (and-right (before l k) (eqZ (side j k l) (pos 0)) more))

@@ -6,16 +6,22 @@
 --     then-then, then-same, then-accepted   calls one after the other
 --     rows-then                             rows are tried one list after the other
 --     rows-between, ends-at-row             rows that do not hold change nothing, and one that holds ends the trial
+--     bind-accepted, bind-refused           what is accepted in two steps is accepted in each; what only the first step can refuse
+--     forget                                a trial is known by what follows it
+--     bind-refusal, bind-zero               the number of two trials, one after the other; where it is 0 and each is accepted at 0, both are accepted
+--     number-row                            the number of a trial, as a row
 --     accepted-is, refused-is               equal answers have equal results, and equal numbers
 --
 -- Example: Write is a call on `writeRows`, so `call-refused` says of each number exactly when Write gives it.
 -- Assumes nothing.
 use mathlib.Core.Path.{_≡_, refl, sym, ap, _∙_}
 use mathlib.Core.Logic.{_↔_}
-use mathlib.Core.Bool.{true, false}
+use mathlib.Core.Bool.{Bool, true, false, not}
 use mathlib.Core.List.{List, [], _∷_, _++_, append-assoc}
 use Prim.Native.Nat.{ℕ}
-use Rattle.definitions.specs.Answers.{Answer, refused, accepted, _>>=_, Row, _if_, firstRow}
+use borrow.Author.Tests.{eqb-true}
+use lib.Dec.{eqb}
+use Rattle.definitions.specs.Answers.{Answer, refused, accepted, _>>=_, Row, _if_, firstRow, refusal}
 use Rattle.trial_laws.specs.Rows.{NoneHolds, FirstAt, refused-not-accepted, first-row-accepted, first-row-exact, first-row-append, first-row-rest}
 
 pub accepted-is : {A : Type 0} {a b : A} → accepted a ≡ accepted b → a ≡ b
@@ -81,3 +87,36 @@ call-accepted {A} rows a b = (there, λ h. ap (λ (x : Answer Unit). x >>= λ ok
   where
     there : (firstRow rows >>= λ ok. accepted a) ≡ accepted b → NoneHolds rows × (a ≡ b)
     there e = both-accepted (firstRow rows) (λ ok. accepted a) b e λ ok e1 e2. (first-row-accepted rows .0 e1, accepted-is e2)
+
+pub bind-accepted : {A B : Type 0} (answer : Answer A) (f : A → Answer B) (b : B) → (answer >>= f) ≡ accepted b → (a : A) × (answer ≡ accepted a) × (f a ≡ accepted b)
+unfolding _>>=_
+bind-accepted (refused n) f b e = refused-not-accepted e
+bind-accepted (accepted a) f b e = (a, refl, e)
+
+pub bind-refused : {A B : Type 0} (answer : Answer A) (f : A → B) (n : ℕ) → (answer >>= λ a. accepted (f a)) ≡ refused n → answer ≡ refused n
+unfolding _>>=_
+bind-refused (refused m) f n e = cc
+bind-refused (accepted a) f n e = refused-not-accepted (sym e)
+
+-- ---- trials, which are accepted with nothing
+
+module _ (answer : Answer Unit) where
+  pub forget : {B : Type 0} (b : B) → ((answer >>= λ ok. accepted b) >>= λ c. accepted tt) ≡ answer
+  unfolding _>>=_
+  forget b = elim answer [ refused n ↦ refl | accepted ok ↦ refl ]
+
+  pub bind-refusal : (f g : Answer Unit) → refusal f ≡ refusal g → refusal (answer >>= λ ok. f) ≡ refusal (answer >>= λ ok. g)
+  unfolding _>>=_
+  bind-refusal f g e = elim answer [ refused n ↦ refl | accepted ok ↦ e ]
+
+  pub bind-zero : (f : Answer Unit) → (refusal answer ≡ 0 → answer ≡ accepted tt) → (refusal f ≡ 0 → f ≡ accepted tt) → refusal (answer >>= λ ok. f) ≡ 0 → (answer >>= λ ok. f) ≡ accepted tt
+  unfolding _>>=_
+  bind-zero f a b = elim answer as (λ x. (refusal x ≡ 0 → x ≡ accepted tt) → refusal (x >>= λ ok. f) ≡ 0 → (x >>= λ ok. f) ≡ accepted tt) [ refused n ↦ λ h. h | accepted ok ↦ λ h. b ] a
+
+pub number-row : (n : ℕ) → refusal (firstRow (n if not (eqb n 0) ∷ [])) ≡ n
+unfolding refusal firstRow
+number-row n = by (eqb n 0) refl
+  where
+    by : (test : Bool) → eqb n 0 ≡ test → refusal (firstRow (n if not (eqb n 0) ∷ [])) ≡ n
+    by true e = rw e (sym (eqb-true n 0 e))
+    by false e = rw e refl
