@@ -8,3 +8,4 @@ pub mod ReadingPromiseLaws
 pub mod Writing
 pub mod WritingLaws
 pub mod WritingAnswers
+pub mod BothWays
