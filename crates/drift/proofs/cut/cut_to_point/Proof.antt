@@ -1,0 +1,73 @@
+-- `drift::cut::cut_to_point` meets its contract. Assumes nothing.
+use native.Mathlib.Omega.{arith}
+use borrow.Author.Needs.{needs}
+use Rattle.drift.specs.Joins.{point-slow, point-cut, point-fast, point-none}
+use Rattle.drift.proofs.cut.cut_to_point.Statement.{statement}
+use Rattle.drift.proofs.cut.cut_to_point.Tie as tie
+
+reaches-end-requires : tie.Need-reaches-end-requires
+reaches-end-requires c κs = search needs
+
+alone-requires : tie.Need-alone-requires
+alone-requires c κs = search needs
+
+returns : tie.Need-returns
+returns c = point-slow (c .before .before .before .before .before .before .before .before .pre .2) (c .before .before .reaches-end .ensures) (c .before .if1 .taken) (c .alone .ensures)
+
+above-end-requires : tie.Need-above-end-requires
+above-end-requires c κs = search needs
+
+trim-requires : tie.Need-trim-requires
+trim-requires c κs = search needs
+
+slice-write-up : tie.Need-slice-write-up
+slice-write-up c = search needs
+
+slice-write-down : tie.Need-slice-write-down
+slice-write-down c = search needs
+
+first-entries-requires : tie.Need-first-entries-requires
+first-entries-requires c κs = search needs
+
+same-length : tie.Need-same-length
+same-length c = search needs
+
+same-length-2 : tie.Need-same-length-2
+same-length-2 c = search needs
+
+returns-2 : tie.Need-returns-2
+returns-2 c =
+    let P = c .before .before .before .before .before .before .before .before .before .before .before .before .before .before .before .pre in
+    point-cut (P .2) (c .before .before .before .before .before .before .before .before .before .reaches-end .ensures) (c .before .before .before .before .before .before .before .before .if1 .left) (c .before .before .before .before .before .before .before .above-end .ensures) (c .before .before .before .before .before .before .if2 .taken) (P .5) (omega (arith, P .3)) (omega (arith, P .4)) (c .before .before .before .trim .ensures) (c .first-entries .ensures)
+
+reaches-end-requires-2 : tie.Need-reaches-end-requires-2
+reaches-end-requires-2 c κs = search needs
+
+alone-requires-2 : tie.Need-alone-requires-2
+alone-requires-2 c κs = search needs
+
+returns-3 : tie.Need-returns-3
+returns-3 c = point-fast (c .before .before .before .before .before .before .before .before .before .before .before .before .pre .2) (c .before .before .before .before .before .before .reaches-end .ensures) (c .before .before .before .before .before .if1 .left) (c .before .before .before .before .above-end .ensures) (c .before .before .reaches-end2 .ensures) (c .before .before .before .if2 .left) (c .before .if3 .taken) (c .alone2 .ensures)
+
+returns-4 : tie.Need-returns-4
+returns-4 c = point-none (c .before .before .before .before .before .before .before .before .before .before .before .pre .2) (c .before .before .before .before .before .reaches-end .ensures) (c .before .before .before .before .if1 .left) (c .before .before .before .above-end .ensures) (c .before .reaches-end2 .ensures) (c .if3 .left)
+
+pub cut-to-point-spec : {M : Type 1} → statement M
+cut-to-point-spec =
+    tie.close
+    (tie.spec
+    reaches-end-requires
+    alone-requires
+    returns
+    above-end-requires
+    trim-requires
+    slice-write-up
+    slice-write-down
+    first-entries-requires
+    same-length
+    same-length-2
+    returns-2
+    reaches-end-requires-2
+    alone-requires-2
+    returns-3
+    returns-4)

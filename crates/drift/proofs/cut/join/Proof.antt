@@ -1,0 +1,53 @@
+-- `drift::cut::join` meets its contract. Assumes nothing.
+use borrow.Author.Needs.{needs}
+use Rattle.drift_laws.specs.TestedSigns.{equal-of}
+use Rattle.drift.specs.Joins.{join-cuts, join-point}
+use Rattle.drift.proofs.cut.join.Statement.{statement}
+use Rattle.drift.proofs.cut.join.Tie as tie
+
+has-width-requires : tie.Need-has-width-requires
+has-width-requires c κs = search needs
+
+cut-above-requires : tie.Need-cut-above-requires
+cut-above-requires c κs = search needs
+
+cut-below-requires : tie.Need-cut-below-requires
+cut-below-requires c κs = search needs
+
+cut-to-point-requires : tie.Need-cut-to-point-requires
+cut-to-point-requires c κs =
+    let P = c .before .before .before .before .before .before .before .pre in
+    (P .0, P .1, P .2, P .3, P .4, equal-of (P .5) (c .before .before .before .has-width .ensures) (c .before .before .if1 .left))
+
+same-length : tie.Need-same-length
+same-length c = search needs
+
+same-length-2 : tie.Need-same-length-2
+same-length-2 c = search needs
+
+returns : tie.Need-returns
+returns c = join-cuts (c .before .before .before .before .before .before .before .before .before .before .before .has-width .ensures) (c .before .before .before .before .before .before .before .before .before .before .if1 .taken) (c .before .before .before .before .before .before .before .cut-above .ensures) (c .before .before .cut-below .ensures)
+
+same-length-3 : tie.Need-same-length-3
+same-length-3 c = search needs
+
+same-length-4 : tie.Need-same-length-4
+same-length-4 c = search needs
+
+returns-2 : tie.Need-returns-2
+returns-2 c = join-point (equal-of (c .before .before .before .before .before .before .before .before .before .before .before .before .pre .5) (c .before .before .before .before .before .before .before .before .has-width .ensures) (c .before .before .before .before .before .before .before .if1 .left)) (c .before .before .before .before .cut-to-point .ensures)
+
+pub join-spec : {M : Type 1} → statement M
+join-spec =
+    tie.close
+    (tie.spec
+    has-width-requires
+    cut-above-requires
+    cut-below-requires
+    cut-to-point-requires
+    same-length
+    same-length-2
+    returns
+    same-length-3
+    same-length-4
+    returns-2)

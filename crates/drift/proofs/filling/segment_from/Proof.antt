@@ -1,0 +1,133 @@
+-- `drift::filling::segment_from` meets its contract: what `run_from` found is the next segment, with the outlook that `outlook_of` gives its two lines.
+-- Assumes nothing.
+use mathlib.Core.Path.{_≡_, sym, ap, _∙_, subst}
+use Prim.Native.Nat.{ℕ, _+_, _-_, _≤_}
+use native.Mathlib.Omega.{arith}
+use borrow.Author.Needs.{needs}
+use lib.IntN.{ℤ}
+use lib.ListN.{getD}
+use mir.Syntax.{w32}
+use mir.Val.{toZ, ofZ}
+use mir.Facts.{toZ-ofZ}
+use Rattle.integers.specs.Bounds.{Within}
+use Rattle.definitions.specs.Spans.{mostValue, mostTime}
+use Rattle.definitions.specs.Ranges.{Lists}
+use Rattle.definitions.specs.Corners.{reduced}
+use Rattle.trial_laws.specs.Inside.{value-inside}
+use Rattle.trial_laws.specs.Accepted.{AcceptedLists}
+use Rattle.drift.specs.Meanings.{lineOf, outlookOf, segmentOf}
+use Rattle.drift.specs.Reach.{lookAhead}
+use Rattle.drift.specs.RunsFrom.{RunFrom, PolygonAt}
+use Rattle.drift.specs.Filling.{NextSegment}
+use Rattle.drift.specs.NextSegments.{foundAt, next-open, next-lines}
+use Rattle.drift.proofs.filling.segment_from.Statement.{statement}
+use Rattle.drift.proofs.filling.segment_from.Tie as tie
+
+cast-n : tie.Need-cast-n
+cast-n c = search needs
+
+cast-begin : tie.Need-cast-begin
+cast-begin c = search needs
+
+run-from-requires : tie.Need-run-from-requires
+run-from-requires c κs = search needs
+
+mul-first-time : tie.Need-mul-first-time
+mul-first-time c = search needs
+
+shared-slice-read-first-time : tie.Need-shared-slice-read-first-time
+shared-slice-read-first-time c = search needs
+
+cast-last-time : tie.Need-cast-last-time
+cast-last-time c = search needs
+
+sub-last-time : tie.Need-sub-last-time
+sub-last-time c = search needs
+
+mul-last-time : tie.Need-mul-last-time
+mul-last-time c = search needs
+
+shared-slice-read-last-time : tie.Need-shared-slice-read-last-time
+shared-slice-read-last-time c = search needs
+
+sub-count : tie.Need-sub-count
+sub-count c = search needs
+
+same-length : tie.Need-same-length
+same-length c = search needs
+
+same-length-2 : tie.Need-same-length-2
+same-length-2 c = search needs
+
+-- ---- where the run is known
+
+abbrev entry : tie.After-run-from → tie.Start
+entry c = c .before .before .before .before .before .before
+
+abbrev lists : tie.Start → Lists
+lists s = record { times = s .args .times .now; lows = s .args .lows .now; highs = s .args .highs .now }
+
+lists-good : (s : tie.Start) → AcceptedLists (lists s)
+lists-good s = s .pre .tried .lists-accepted
+
+-- the level is passed on as bits
+level-read : (s : tie.Start) → toZ w32 (ofZ w32 (s .args .level)) ≡ s .args .level
+level-read s = toZ-ofZ (s .fits .level)
+
+level-in : (s : tie.Start) → Within mostValue (toZ w32 (ofZ w32 (s .args .level)))
+level-in s = subst (Within mostValue) (sym (level-read s)) (value-inside (s .args .level) .0 (s .pre .tried .level-inside))
+
+returns : tie.Need-returns
+unfolding segmentOf outlookOf
+returns c =
+    let r = c .before .before .before .before .before .before .before in
+    let s = entry r in
+    next-open (lists-good s) (r .run-from .ensures) (s .args .level) (c .if1 .taken)
+
+outlook-of-requires : tie.Need-outlook-of-requires
+outlook-of-requires c κs =
+    let r = c .before .before .before .before .before .before .before .before .before .before in
+    let two = c .before .before .before .if1 .left in
+    let z = r .run-from .ensures .polygon-is (omega arith) in
+    (z .slow-small, z .fast-small, level-in (entry r))
+
+same-length-3 : tie.Need-same-length-3
+same-length-3 c = search needs
+
+same-length-4 : tie.Need-same-length-4
+same-length-4 c = search needs
+
+returns-2 : tie.Need-returns-2
+unfolding segmentOf
+returns-2 c =
+    let r = c .before .before .before .before .before .before .before .before .before .before .before in
+    let s = entry r in
+    let ls = lists s in
+    let e = r .run-from .result .end in
+    let two = c .before .before .before .before .if1 .left in
+    let known = c .before .before .before .before .before .shared-slice-known3 .given (e - 1) in
+    let look = c .outlook-of .ensures ∙ ap (λ l. lookAhead (reduced (lineOf (r .run-from .result .polygon .slow))) (reduced (lineOf (r .run-from .result .polygon .fast))) l (getD (ls .times) (e - 1) 0)) (level-read s) in
+    subst (λ o. NextSegment (s .args .level) ls (s .args .start) (foundAt ls (s .args .start) e o)) (sym look)
+    (next-lines (lists-good s) (r .run-from .ensures) (s .args .level) (omega arith) (omega arith))
+
+pub segment-from-spec : {M : Type 1} → statement M
+segment-from-spec =
+    tie.close
+    (tie.spec
+    cast-n
+    cast-begin
+    run-from-requires
+    mul-first-time
+    shared-slice-read-first-time
+    cast-last-time
+    sub-last-time
+    mul-last-time
+    shared-slice-read-last-time
+    sub-count
+    same-length
+    same-length-2
+    returns
+    outlook-of-requires
+    same-length-3
+    same-length-4
+    returns-2)

@@ -1,0 +1,59 @@
+-- `drift::rows::too_short` meets its contract: eleven tests in the order of the definition's list. Assumes nothing.
+use Rattle.integers.specs.Lists.{any}
+use Rattle.definitions.specs.Trial.{tooShort}
+use Rattle.drift.proofs.rows.too_short.Statement.{statement}
+use Rattle.drift.proofs.rows.too_short.Tie as tie
+
+short-requires : tie.Need-short-requires
+short-requires c κs = tt
+
+short-requires-2 : tie.Need-short-requires-2
+short-requires-2 c κs = tt
+
+short-requires-3 : tie.Need-short-requires-3
+short-requires-3 c κs = tt
+
+short-requires-4 : tie.Need-short-requires-4
+short-requires-4 c κs = tt
+
+short-requires-5 : tie.Need-short-requires-5
+short-requires-5 c κs = tt
+
+short-requires-6 : tie.Need-short-requires-6
+short-requires-6 c κs = tt
+
+short-requires-7 : tie.Need-short-requires-7
+short-requires-7 c κs = tt
+
+short-requires-8 : tie.Need-short-requires-8
+short-requires-8 c κs = tt
+
+short-requires-9 : tie.Need-short-requires-9
+short-requires-9 c κs = tt
+
+short-requires-10 : tie.Need-short-requires-10
+short-requires-10 c κs = tt
+
+short-requires-11 : tie.Need-short-requires-11
+short-requires-11 c κs = tt
+
+returns : tie.Need-returns
+unfolding tooShort any
+returns c = cc
+
+pub too-short-spec : {M : Type 1} → statement M
+too-short-spec =
+    tie.close
+    (tie.spec
+    short-requires
+    short-requires-2
+    short-requires-3
+    short-requires-4
+    short-requires-5
+    short-requires-6
+    short-requires-7
+    short-requires-8
+    short-requires-9
+    short-requires-10
+    short-requires-11
+    returns)

@@ -1,0 +1,187 @@
+-- `drift::segment` meets its contract: the trial answers with the number of the first row that holds, and where none does the slices are filled. Assumes nothing.
+use Prim.Native.Nat.{ℕ, _≤_, _<_}
+use mathlib.Core.Path.{_≡_, sym, ap, ap₂, _∙_, subst}
+use mathlib.Core.Bool.{Bool}
+use mathlib.Core.List.{List}
+use native.Mathlib.Omega.{arith}
+use lib.IntN.{ℤ}
+use lib.ListN.{length, length-map}
+use mir.Syntax.{w32}
+use mir.Val.{toZ, ofZ}
+use mir.Facts.{toZ-ofZ}
+use Rattle.definitions.specs.Spans.{mostRanges, segmentRoom}
+use Rattle.definitions.specs.Ranges.{Lists, rangesOf}
+use Rattle.definitions.specs.Results.{segmentOf, segmentsOf}
+use Rattle.definitions.specs.Answers.{Row, refused, accepted, firstRow, refusal}
+use Rattle.definitions.specs.Trial.{tooShort, outside, segmentRows}
+use Rattle.trial_laws.specs.Rows.{refusal-zero, refusal-above}
+use Rattle.trial_laws.specs.ListTrial.{trialRows, segment-trial, trial-numbered}
+use Rattle.trial_laws.specs.RangeLists.{ranges-length}
+use Rattle.lines.specs.Theorems.{segments-room}
+use Rattle.definitions.specs.Segments.{segments}
+use borrow.Author.Needs.{needs}
+use Rattle.trial_laws.specs.Accepted.{AcceptedLists, trial-zero}
+use Rattle.drift.specs.Columns.{Columns, columns, lengths, AllStored}
+use Rattle.drift.specs.ColumnLaws.{room-less, room-tested}
+use Rattle.drift.specs.SegmentPromiseLaws.{promise-refused, promise-accepted}
+use Rattle.drift.specs.Filling.{FillReady}
+use Rattle.drift.proofs.segment.Statement.{statement}
+use Rattle.drift.proofs.segment.Tie as tie
+
+-- ---- at entry
+
+abbrev level : tie.Start → ℤ
+level c = c .args .level
+
+abbrev lists : tie.Start → Lists
+lists c = record { times = c .args .times .now; lows = c .args .lows .now; highs = c .args .highs .now }
+
+abbrev old : tie.Start → Columns
+old c = columns (c .args .first-times .now) (c .args .last-times .now) (c .args .counts .now) (c .args .slow-ps .now) (c .args .slow-qs .now) (c .args .slow-ds .now) (c .args .fast-ps .now) (c .args .fast-qs .now) (c .args .fast-ds .now) (c .args .somes .now) (c .args .alls .now)
+
+-- the level is passed on as bits
+level-read : (c : tie.Start) → toZ w32 (ofZ w32 (level c)) ≡ level c
+level-read c = toZ-ofZ (c .fits .level)
+
+too-short-requires : tie.Need-too-short-requires
+too-short-requires c κs = tt
+
+value-outside-requires : tie.Need-value-outside-requires
+value-outside-requires c κs = tt
+
+try-lists-requires : tie.Need-try-lists-requires
+try-lists-requires c κs = tt
+
+-- ---- where the trial has answered
+
+-- at most 2,048 segments
+few : (level : ℤ) (ls : Lists) → AcceptedLists ls → length (segmentsOf level (rangesOf ls)) ≤ segmentRoom
+unfolding segmentsOf
+few level ls a =
+    let long = ranges-length ls (a .same) in
+    let most = a .few in
+    omega (arith, length-map (segments (rangesOf ls)) (segmentOf level), segments-room (rangesOf ls) (a .ranges .ordered) (omega arith))
+
+-- the trial's rows are the call's
+tried : (ns : List ℕ) (level level′ : ℤ) (ls : Lists) {short out : Bool} → short ≡ tooShort segmentRoom ns → out ≡ outside level′ → level′ ≡ level → firstRow (segmentRows ns level ls) ≡ firstRow (trialRows short out ls)
+tried ns level level′ ls e f g = segment-trial ns level ls ∙ ap₂ (λ short out. firstRow (trialRows short out ls)) (sym e) (sym (f ∙ ap outside g))
+
+module _ (c : tie.After-try-lists) where
+  abbrev entry : tie.Start
+  entry = c .before .before .before .before .before .before .before .before .before
+
+  abbrev number : ℕ
+  number = c .try-lists .result
+
+  abbrev rows : List Row
+  rows = trialRows (c .before .before .too-short .result) (c .before .value-outside .result) (lists entry)
+
+  number-is : refusal (firstRow rows) ≡ number
+  number-is = sym (c .try-lists .ensures)
+
+  rows-are : firstRow (segmentRows (lengths (old entry)) (level entry) (lists entry)) ≡ firstRow rows
+  rows-are = tried (lengths (old entry)) (level entry) (toZ w32 (ofZ w32 (level entry))) (lists entry) (c .before .before .too-short .ensures) (c .before .value-outside .ensures) (level-read entry)
+
+  one-holds : 0 < number → firstRow (segmentRows (lengths (old entry)) (level entry) (lists entry)) ≡ refused number
+  one-holds h = rows-are ∙ refusal-above (firstRow rows) number number-is h
+
+  none-holds : number ≡ 0 → firstRow (segmentRows (lengths (old entry)) (level entry) (lists entry)) ≡ accepted tt
+  none-holds e = rows-are ∙ refusal-zero rows (trial-numbered _ _ (lists entry)) .0 (number-is ∙ e)
+
+  -- the chains lie in two arrays, each with room for every range
+  ready : number ≡ 0 → FillReady (level entry) (lists entry) mostRanges mostRanges (old entry)
+  ready e =
+      let (roomy, inside, lists-accepted) = trial-zero _ _ (lists entry) .0 (number-is ∙ e) in
+      record {
+        tried = record { level-inside = ap outside (sym (level-read entry)) ∙ sym (c .before .value-outside .ensures) ∙ inside; lists-accepted = lists-accepted };
+        chains = record { up-room = lists-accepted .few; down-room = lists-accepted .few };
+        room = room-less (few (level entry) (lists entry) lists-accepted) (room-tested (old entry) (sym (c .before .before .too-short .ensures) ∙ roomy));
+      }
+
+returns : tie.Need-returns
+returns c = let s = entry (c .before) in promise-refused (level s) (lists s) (old s) (number (c .before)) (one-holds (c .before) (omega (arith, c .if1 .taken)))
+
+fill-requires : tie.Need-fill-requires
+fill-requires c κs =
+    let t = c .before .before .before .before .before .before .before .before .before .before .before .before .before .before in
+    let s = entry t in
+    subst (λ l. FillReady l (lists s) mostRanges mostRanges (old s)) (sym (level-read s)) (ready t (c .before .before .before .before .before .before .before .before .before .before .before .before .before .if1 .left))
+
+-- ---- where the slices are filled
+
+-- after the call
+abbrev filled-at : tie.After-slice-known10 → tie.After-fill
+filled-at c = c .before .before .before .before .before .before .before .before .before .before .before .before .before .before .before .before .before .before
+
+same-length : tie.Need-same-length
+same-length c = filled-at c .fill .kept .1 .1 .1 .1 .1 .1 .0
+
+same-length-2 : tie.Need-same-length-2
+same-length-2 c = filled-at c .fill .kept .1 .1 .1 .1 .1 .1 .1 .0
+
+same-length-3 : tie.Need-same-length-3
+same-length-3 c = filled-at c .fill .kept .1 .1 .1 .1 .1 .1 .1 .1 .0
+
+same-length-4 : tie.Need-same-length-4
+same-length-4 c = filled-at c .fill .kept .1 .1 .1 .1 .1 .1 .1 .1 .1 .0
+
+same-length-5 : tie.Need-same-length-5
+same-length-5 c = filled-at c .fill .kept .1 .1 .1 .1 .1 .1 .1 .1 .1 .1 .0
+
+same-length-6 : tie.Need-same-length-6
+same-length-6 c = filled-at c .fill .kept .1 .1 .1 .1 .1 .1 .1 .1 .1 .1 .1 .0
+
+same-length-7 : tie.Need-same-length-7
+same-length-7 c = filled-at c .fill .kept .1 .1 .1 .1 .1 .1 .1 .1 .1 .1 .1 .1 .0
+
+same-length-8 : tie.Need-same-length-8
+same-length-8 c = filled-at c .fill .kept .1 .1 .1 .1 .1 .1 .1 .1 .1 .1 .1 .1 .1 .0
+
+same-length-9 : tie.Need-same-length-9
+same-length-9 c = filled-at c .fill .kept .1 .1 .1 .1 .1 .1 .1 .1 .1 .1 .1 .1 .1 .1 .0
+
+same-length-10 : tie.Need-same-length-10
+same-length-10 c = filled-at c .fill .kept .1 .1 .1 .1 .1 .1 .1 .1 .1 .1 .1 .1 .1 .1 .1 .0
+
+same-length-11 : tie.Need-same-length-11
+same-length-11 c = filled-at c .fill .kept .1 .1 .1 .1 .1 .1 .1 .1 .1 .1 .1 .1 .1 .1 .1 .1 .0
+
+returns-2 : tie.Need-returns-2
+returns-2 c =
+    let f = filled-at c in
+    let t = f .before .before .before .before .before .before .before .before .before .before .before .before .before .before .before in
+    let s = entry t in
+    let filling = f .fill in
+    let new = columns (filling .last .1 .1 .1 .1 .1 .1 .0) (filling .last .1 .1 .1 .1 .1 .1 .1 .0) (filling .last .1 .1 .1 .1 .1 .1 .1 .1 .0) (filling .last .1 .1 .1 .1 .1 .1 .1 .1 .1 .0) (filling .last .1 .1 .1 .1 .1 .1 .1 .1 .1 .1 .0) (filling .last .1 .1 .1 .1 .1 .1 .1 .1 .1 .1 .1 .0) (filling .last .1 .1 .1 .1 .1 .1 .1 .1 .1 .1 .1 .1 .0) (filling .last .1 .1 .1 .1 .1 .1 .1 .1 .1 .1 .1 .1 .1 .0) (filling .last .1 .1 .1 .1 .1 .1 .1 .1 .1 .1 .1 .1 .1 .1 .0) (filling .last .1 .1 .1 .1 .1 .1 .1 .1 .1 .1 .1 .1 .1 .1 .1 .0) (filling .last .1 .1 .1 .1 .1 .1 .1 .1 .1 .1 .1 .1 .1 .1 .1 .1 .0) in
+    promise-accepted (level s) (lists s) (filling .result) (none-holds t (f .before .before .before .before .before .before .before .before .before .before .before .before .before .before .if1 .left))
+    (subst (λ l. AllStored (filling .result) (segmentsOf l (rangesOf (lists s))) (old s) new) (level-read s) (filling .ensures))
+
+slice-aggregate-fill : tie.Need-slice-aggregate-fill
+slice-aggregate-fill c = search needs
+
+slice-aggregate-fill-2 : tie.Need-slice-aggregate-fill-2
+slice-aggregate-fill-2 c = search needs
+
+pub segment-spec : {M : Type 1} → statement M
+segment-spec =
+    tie.close
+    (tie.spec
+    too-short-requires
+    value-outside-requires
+    try-lists-requires
+    returns
+    slice-aggregate-fill
+    slice-aggregate-fill-2
+    fill-requires
+    same-length
+    same-length-2
+    same-length-3
+    same-length-4
+    same-length-5
+    same-length-6
+    same-length-7
+    same-length-8
+    same-length-9
+    same-length-10
+    same-length-11
+    returns-2)

@@ -1,0 +1,176 @@
+-- Laws of the eleven columns.
+--
+--     each, each-apply             a rule that always holds; a rule that follows from another, column by column
+--     room-less, room-kept         room for fewer; room in columns of the same lengths
+--     room-tested                  no length is too short, so there is room
+--     stored-next                  of one column: x stored past the entries xs
+--     filled-none, filled-next     nothing stored; n stored next after ns
+--     filled-lengths               filling keeps the lengths
+--     first-none                   no segment stored
+--     first-lengths, first-room    with the first c stored: the lengths are kept, and there is room for the next
+--     first-next, rest-left        the next segment stored, and those that are left then
+--     first-all                    none is left, so all are stored
+--
+-- A loop that stores one segment a turn has `FirstStored c ss old now` for its invariant, beside what says which segments are left, `drop c ss`.
+-- Assumes nothing.
+use Prim.Native.Nat.{ℕ, suc, _+_, _≤_, _<_}
+use mathlib.Core.Path.{_≡_, refl, sym, ap, _∙_, subst}
+use mathlib.Core.Bool.{false}
+use mathlib.Core.List.{List, [], _∷_, _++_, map, map-append}
+use native.Mathlib.Omega.{arith}
+use native.Mathlib.Numerals.{add-one}
+use borrow.Author.Tests.{ltb-false}
+use lib.Dec.{ltb}
+use lib.ListN.{length, set, take, drop, length-append, length-drop, length-map}
+use lib.Seq.{drop-cons, set-at, append-snoc, take-all, take-add, drop-drop, length-take-le}
+use Rattle.integers.specs.Booleans.{or-neither}
+use Rattle.integers.specs.Lists.{any}
+use Rattle.definitions.specs.Results.{Numbers, Segment, numbersOf}
+use Rattle.definitions.specs.Trial.{tooShort}
+use Rattle.drift.specs.Columns.{Columns, Rule, EachColumn, lengths, Room, SameLengths, Stored, Filled, FirstStored, AllStored}
+
+pub each : {rule : Rule} → ((A : Type 0) (number : Numbers → A) (column : Columns → List A) → rule A number column) → EachColumn rule
+each h =
+    record {
+      first-times = h _ _ _;
+      last-times = h _ _ _;
+      counts = h _ _ _;
+      slow-ps = h _ _ _;
+      slow-qs = h _ _ _;
+      slow-ds = h _ _ _;
+      fast-ps = h _ _ _;
+      fast-qs = h _ _ _;
+      fast-ds = h _ _ _;
+      somes = h _ _ _;
+      alls = h _ _ _;
+    }
+
+pub each-apply : {P Q : Rule} → EachColumn (λ A number column. P A number column → Q A number column) → EachColumn P → EachColumn Q
+each-apply f h =
+    record {
+      first-times = f .first-times (h .first-times);
+      last-times = f .last-times (h .last-times);
+      counts = f .counts (h .counts);
+      slow-ps = f .slow-ps (h .slow-ps);
+      slow-qs = f .slow-qs (h .slow-qs);
+      slow-ds = f .slow-ds (h .slow-ds);
+      fast-ps = f .fast-ps (h .fast-ps);
+      fast-qs = f .fast-qs (h .fast-qs);
+      fast-ds = f .fast-ds (h .fast-ds);
+      somes = f .somes (h .somes);
+      alls = f .alls (h .alls);
+    }
+
+-- ---- room
+
+pub room-less : {j k : ℕ} {cs : Columns} → j ≤ k → Room k cs → Room j cs
+room-less h room = each-apply (each (λ A number column r. omega arith)) room
+
+pub room-kept : {k : ℕ} {old new : Columns} → SameLengths old new → Room k old → Room k new
+room-kept same room = each-apply (each-apply (each (λ A number column e r. omega arith)) same) room
+
+abbrev AllFrom : ℕ → List ℕ → Type 0
+AllFrom k [] = Unit
+AllFrom k (n ∷ ns) = (k ≤ n) × AllFrom k ns
+
+all-from : (k : ℕ) (ns : List ℕ) → tooShort k ns ≡ false → AllFrom k ns
+unfolding tooShort any
+all-from k [] e = tt
+all-from k (n ∷ ns) e = let (here, later) = or-neither (ltb n k) (tooShort k ns) e in (ltb-false n k here, all-from k ns later)
+
+pub room-tested : {k : ℕ} (cs : Columns) → tooShort k (lengths cs) ≡ false → Room k cs
+room-tested {k} cs e =
+    let h = all-from k (lengths cs) e in
+    record {
+      first-times = h .0;
+      last-times = h .1 .0;
+      counts = h .1 .1 .0;
+      slow-ps = h .1 .1 .1 .0;
+      slow-qs = h .1 .1 .1 .1 .0;
+      slow-ds = h .1 .1 .1 .1 .1 .0;
+      fast-ps = h .1 .1 .1 .1 .1 .1 .0;
+      fast-qs = h .1 .1 .1 .1 .1 .1 .1 .0;
+      fast-ds = h .1 .1 .1 .1 .1 .1 .1 .1 .0;
+      somes = h .1 .1 .1 .1 .1 .1 .1 .1 .1 .0;
+      alls = h .1 .1 .1 .1 .1 .1 .1 .1 .1 .1 .0;
+    }
+
+-- ---- storing one row after the other
+
+pub filled-none : (cs : Columns) → Filled [] cs cs
+filled-none cs = each (λ A number column. refl)
+
+-- x stored past the entries xs
+pub stored-next : {A : Type 0} (xs old : List A) (x : A) (k : ℕ) → length xs ≡ k → k < length old
+    → set (xs ++ drop k old) k x ≡ (xs ++ (x ∷ [])) ++ drop (suc k) old
+stored-next xs old x k e h =
+    ap (λ l. set (xs ++ l) k x) (drop-cons old k x h)
+    ∙ set-at xs _ (drop (suc k) old) x k e
+    ∙ sym (append-snoc xs x (drop (suc k) old))
+
+module _ (ns : List Numbers) (n : Numbers) (k : ℕ) (count : length ns ≡ k) where
+  one-more : length (ns ++ (n ∷ [])) ≡ suc k
+  one-more = length-append ns (n ∷ []) ∙ add-one (length ns) ∙ ap suc count
+
+  column-next : {A : Type 0} (number : Numbers → A) (old mid new : List A) → suc k ≤ length old
+      → mid ≡ map number ns ++ drop (length ns) old
+      → new ≡ set mid k (number n)
+      → new ≡ map number (ns ++ (n ∷ [])) ++ drop (length (ns ++ (n ∷ []))) old
+  column-next number old mid new room e f =
+      f
+      ∙ ap (λ l. set l k (number n)) (e ∙ ap (λ m. map number ns ++ drop m old) count)
+      ∙ stored-next (map number ns) old (number n) k (length-map ns number ∙ count) room
+      ∙ ap (λ l. l ++ drop (suc k) old) (sym (map-append number ns (n ∷ [])))
+      ∙ ap (λ m. map number (ns ++ (n ∷ [])) ++ drop m old) (sym one-more)
+
+  pub filled-next : {old mid new : Columns} → Room (suc k) old → Filled ns old mid → Stored k n mid new → Filled (ns ++ (n ∷ [])) old new
+  filled-next {old} {mid} {new} room filled stored =
+      each-apply (each-apply (each-apply (each (λ A number column. column-next number (column old) (column mid) (column new))) room) filled) stored
+
+column-length : {A : Type 0} (number : Numbers → A) (ns : List Numbers) (old new : List A) → length ns ≤ length old → new ≡ map number ns ++ drop (length ns) old → length new ≡ length old
+column-length number ns old new room e = ap length e ∙ simp (length-append, length-map, length-drop) (omega arith)
+
+pub filled-lengths : (ns : List Numbers) {old new : Columns} → Room (length ns) old → Filled ns old new → SameLengths old new
+filled-lengths ns {old} {new} room filled = each-apply (each-apply (each (λ A number column. column-length number ns (column old) (column new))) room) filled
+
+-- ---- the segments of a list, one after the other
+
+pub first-none : (ss : List Segment) (cs : Columns) → FirstStored 0 ss cs cs
+first-none ss cs = record { within = omega arith; columns-are = filled-none cs }
+
+pub first-all : {c : ℕ} {ss : List Segment} {old new : Columns} → FirstStored c ss old new → drop c ss ≡ [] → AllStored c ss old new
+first-all {c} {ss} {old} {new} stored e =
+    record {
+      count-is = let f = ap length e in let d = length-drop c ss in let w = stored .within in omega arith;
+      columns-are = subst (λ l. Filled (map numbersOf l) old new) (take-all c ss (let f = ap length e in let d = length-drop c ss in omega arith)) (stored .columns-are);
+    }
+
+module _ {c : ℕ} {ss : List Segment} {old mid : Columns} (stored : FirstStored c ss old mid) (room : Room (length ss) old) where
+  numbers-stored : length (map numbersOf (take c ss)) ≡ c
+  numbers-stored = length-map (take c ss) numbersOf ∙ length-take-le c ss (stored .within)
+
+  pub first-lengths : SameLengths old mid
+  first-lengths = filled-lengths (map numbersOf (take c ss)) (room-less (rw numbers-stored (stored .within)) room) (stored .columns-are)
+
+  -- s comes next
+  module _ {s : Segment} {rest : List Segment} (next : drop c ss ≡ s ∷ rest) where
+    more : c < length ss
+    more = let e = ap length next in let d = length-drop c ss in omega arith
+
+    pub first-room : Room (suc c) mid
+    first-room = room-kept first-lengths (room-less more room)
+
+    one-taken : take (c + 1) ss ≡ take c ss ++ (s ∷ [])
+    one-taken = rw (take-add c 1 ss) (ap (λ l. take c ss ++ take 1 l) next)
+
+    pub first-next : {new : Columns} → Stored c (numbersOf s) mid new → FirstStored (c + 1) ss old new
+    first-next {new} h =
+        record {
+          within = let m = more in omega arith;
+          columns-are =
+              rw (one-taken, map-append)
+              (filled-next (map numbersOf (take c ss)) (numbersOf s) c numbers-stored (room-less more room) (stored .columns-are) h);
+        }
+
+    pub rest-left : drop (c + 1) ss ≡ rest
+    rest-left = sym (drop-drop 1 c ss) ∙ ap (drop 1) next

@@ -1,0 +1,59 @@
+-- Filling the slices of Segment, one segment a turn.
+--
+--     Tried              the level and the lists, where no row of document 01's table holds for them
+--     ChainRoom          slices of these lengths have room for the chains of a run
+--     StartReady         these, and a range at which a segment is to begin
+--     FillReady          these, and room for all segments: what filling takes
+--     NextSegment        the segment that begins at a range is the next one, and ends within the lists
+--     Turn               after some turns: the first segments are stored, and the ranges from `start` on hold those that are left
+--     ranges-long        there are no more ranges than times
+--
+-- Assumes nothing.
+use Prim.Native.Nat.{ℕ, _+_, _≤_, _<_}
+use mathlib.Core.Path.{_≡_}
+use mathlib.Core.Bool.{false}
+use mathlib.Core.List.{List, [], _∷_}
+use native.Mathlib.Omega.{arith}
+use lib.IntN.{ℤ}
+use lib.ListN.{length, drop}
+use Rattle.definitions.specs.Ranges.{Lists, zipRanges, rangesOf}
+use Rattle.definitions.specs.Results.{Segment, segmentsOf}
+use Rattle.definitions.specs.Trial.{outside}
+use Rattle.trial_laws.specs.Accepted.{AcceptedLists}
+use Rattle.drift.specs.Columns.{Columns, Room, FirstStored}
+
+pub record Tried (level : ℤ) (ls : Lists) : Type 0 where
+  pub level-inside : outside level ≡ false
+  pub lists-accepted : AcceptedLists ls
+
+-- the two chains of a run have room for all ranges
+pub record ChainRoom (ls : Lists) (up down : ℕ) : Type 0 where
+  pub up-room : length (ls .times) ≤ up
+  pub down-room : length (ls .times) ≤ down
+
+pub record StartReady (level : ℤ) (ls : Lists) (up down : ℕ) (start : ℕ) : Type 0 where
+  pub tried : Tried level ls
+  pub chains : ChainRoom ls up down
+  pub inside : start < length (ls .times)
+
+pub record FillReady (level : ℤ) (ls : Lists) (up down : ℕ) (cs : Columns) : Type 0 where
+  pub tried : Tried level ls
+  pub chains : ChainRoom ls up down
+  pub room : Room (length (segmentsOf level (rangesOf ls))) cs
+
+pub record NextSegment (level : ℤ) (ls : Lists) (start : ℕ) (s : Segment) : Type 0 where
+  pub next : segmentsOf level (drop start (rangesOf ls)) ≡ s ∷ segmentsOf level (drop (start + s .count) (rangesOf ls))
+  pub within : start + s .count ≤ length (ls .times)
+  pub some : 0 < s .count
+
+pub record Turn (level : ℤ) (ls : Lists) (old new : Columns) (start count : ℕ) : Type 0 where
+  pub within : start ≤ length (ls .times)
+  pub left : drop count (segmentsOf level (rangesOf ls)) ≡ segmentsOf level (drop start (rangesOf ls))
+  pub stored : FirstStored count (segmentsOf level (rangesOf ls)) old new
+
+pub ranges-long : (ts : List ℕ) (us vs : List ℤ) → length (zipRanges ts us vs) ≤ length ts
+unfolding zipRanges
+ranges-long [] us vs = omega arith
+ranges-long (t ∷ ts) [] vs = omega arith
+ranges-long (t ∷ ts) (u ∷ us) [] = omega arith
+ranges-long (t ∷ ts) (u ∷ us) (v ∷ vs) = let h = ranges-long ts us vs in omega arith

@@ -1,0 +1,143 @@
+-- The segment that begins at a range, from the run that code found there.
+--
+--     segments-from              the segments from i on are the run from i and the segments from its end on
+--     FoundAt ls i e s           s has the times and the number of ranges of the run from i to e
+--     next-open, next-lines      a segment of one range is open; one of more has the outlook of the polygon's two lines
+--
+-- Assumes nothing.
+use mathlib.Core.Path.{_≡_, refl, sym, ap, ap₂, _∙_, subst}
+use mathlib.Core.Logic.{_⊎_, inl, inr}
+use mathlib.Core.List.{List, [], _∷_, _++_, append-nil}
+use Prim.Native.Nat.{ℕ, suc, _+_, _-_, _<_, _≤_}
+use native.Mathlib.Nat.{eq-or-lt-of-le}
+use native.Mathlib.Omega.{arith}
+use lib.IntN.{ℤ}
+use lib.ListN.{length, take, drop, length-take, length-drop, drop-of-length-le}
+use Rattle.definitions.specs.Spans.{mostTime}
+use Rattle.definitions.specs.Ranges.{Range, Lists, rangesOf}
+use Rattle.definitions.specs.Corners.{reduced}
+use Rattle.definitions.specs.Fit.{HasLine, Ordered}
+use Rattle.definitions.specs.Splits.{cut, GoodRun}
+use Rattle.definitions.specs.Segments.{segments}
+use Rattle.definitions.specs.Outlook.{Outlook, open-strip, lines, outlook, endTime}
+use Rattle.definitions.specs.Results.{Segment, segmentOf, segmentsOf}
+use Rattle.trial_laws.specs.RangeLists.{rangeAt, ranges-length, ranges-drop}
+use Rattle.trial_laws.specs.Accepted.{AcceptedLists}
+use Rattle.splits.specs.Greedy.{cut-one-run, cut-first-run}
+use Rattle.splits.specs.OrderedRanges.{lastTimeOf, last-append}
+use Rattle.chains.specs.Results.{slow, fast, slow-fits, fast-fits}
+use Rattle.lines.specs.LineOrder.{reduced-same, reduced-proper}
+use Rattle.lines.specs.OutlookTimes.{reachTime, reachTime-same}
+use Rattle.lines.specs.Polygon.{decides}
+use Rattle.lines.specs.RunOutlook.{outlook-by-lines}
+use Rattle.drift_laws.specs.RunsByPlace.{run, run-one, run-two, run-more, run-rest, run-ordered}
+use Rattle.drift.specs.declared.run.Reach.{Reach}
+use Rattle.drift.specs.Meanings.{lineOf}
+use Rattle.drift.specs.Reach.{lookAhead}
+use Rattle.drift.specs.RunsFrom.{RunFrom, PolygonAt}
+use Rattle.drift.specs.Filling.{NextSegment}
+
+-- a run of at least one range is not empty
+not-empty : (run : List Range) → 0 < length run → HasLine run → GoodRun HasLine run
+not-empty [] h l = absurd (omega arith)
+not-empty (r ∷ rs) h l = l
+
+module _ (ls : Lists) (a : AcceptedLists ls) (i e : ℕ) (begins : i < e) (within : e ≤ length (ls .times)) where
+  run-long : length (run ls i e) ≡ e - i
+  run-long = length-take (e - i) (drop i (rangesOf ls)) ∙ omega (arith, length-drop i (rangesOf ls), ranges-length ls (a .same))
+
+  module _ (line : HasLine (run ls i e)) (closed : e < length (ls .times) → HasLine (run ls i e ++ (rangeAt ls e ∷ [])) → ⊥) where
+    good : GoodRun HasLine (run ls i e)
+    good = not-empty (run ls i e) (omega (arith, run-long)) line
+
+    pub segments-from : segments (drop i (rangesOf ls)) ≡ run ls i e ∷ segments (drop e (rangesOf ls))
+    unfolding segments cut
+    segments-from = ap segments (run-rest ls a i e (omega arith)) ∙ by (eq-or-lt-of-le within)
+      where
+        by : (e ≡ length (ls .times)) ⊎ (e < length (ls .times)) → segments (run ls i e ++ drop e (rangesOf ls)) ≡ run ls i e ∷ segments (drop e (rangesOf ls))
+        by (inl h) =
+            let passed = drop-of-length-le (rangesOf ls) {i = e} (omega (arith, ranges-length ls (a .same))) in
+            ap (λ rest. segments (run ls i e ++ rest)) passed
+            ∙ ap segments (append-nil (run ls i e))
+            ∙ cut-one-run decides (run ls i e) (run-ordered ls a i e) good
+            ∙ ap (λ rest. run ls i e ∷ segments rest) (sym passed)
+        by (inr h) =
+            let next = ranges-drop ls (a .same) e h in
+            ap (λ rest. segments (run ls i e ++ rest)) next
+            ∙ cut-first-run decides (run ls i e) (rangeAt ls e) (drop (suc e) (rangesOf ls)) (subst Ordered (run-more ls a i e (omega arith) h) (run-ordered ls a i (e + 1))) good (closed h)
+            ∙ ap (λ rest. run ls i e ∷ segments rest) (sym next)
+
+    -- a segment with the numbers of the run is the next one
+    next-is : (level : ℤ) (s : Segment) → segmentOf level (run ls i e) ≡ s → s .count ≡ e - i → NextSegment level ls i s
+    unfolding segmentsOf
+    next-is level s is count =
+        record {
+          next =
+              let m : e ≡ i + s .count = omega (arith, count) in
+              ap (λ runs. mathlib.Core.List.map (segmentOf level) runs) segments-from ∙ ap₂ (λ first k. first ∷ segmentsOf level (drop k (rangesOf ls))) is m;
+          within = omega (arith, count);
+          some = omega (arith, count);
+        }
+
+-- the numbers of a segment, with a given outlook
+abbrev pub foundAt : Lists → ℕ → ℕ → Outlook → Segment
+foundAt ls i e o = record { firstTime = rangeAt ls i .time; lastTime = rangeAt ls (e - 1) .time; count = e - i; outlook = o }
+
+module _ {ls : Lists} (a : AcceptedLists ls) {i : ℕ} {up down : List ℕ} {r : Reach} (f : RunFrom ls i (length (ls .times)) up down r) (level : ℤ) where
+  pub next-open : r .end - i < 2 → NextSegment level ls i (foundAt ls i (r .end) open-strip)
+  unfolding segmentOf outlook endTime
+  next-open h =
+      let b = f .begins in
+      let w = f .within in
+      let e : r .end ≡ i + 1 = omega arith in
+      let last : r .end - 1 ≡ i = omega arith in
+      let one : r .end - i ≡ 1 = omega arith in
+      next-is ls a i (r .end) b w (f .line) (f .closed) level (foundAt ls i (r .end) open-strip)
+      (ap (λ k. segmentOf level (run ls i k)) e ∙ ap (segmentOf level) (run-one ls a i (omega arith)) ∙ λ j. record { firstTime = rangeAt ls i .time; lastTime = rangeAt ls (sym last j) .time; count = sym one j; outlook = open-strip })
+      refl
+
+  module _ (h : i + 2 ≤ r .end) (late : rangeAt ls (r .end - 1) .time ≤ mostTime) where
+    run-is : run ls i (r .end) ≡ rangeAt ls i ∷ rangeAt ls (i + 1) ∷ run ls (i + 2) (r .end)
+    run-is = run-two ls a i (r .end) h (f .within)
+
+    ordered : Ordered (rangeAt ls i ∷ rangeAt ls (i + 1) ∷ run ls (i + 2) (r .end))
+    ordered = subst Ordered run-is (run-ordered ls a i (r .end))
+
+    line : HasLine (rangeAt ls i ∷ rangeAt ls (i + 1) ∷ run ls (i + 2) (r .end))
+    line = subst HasLine run-is (f .line)
+
+    last-time : endTime (rangeAt ls (i + 1)) (run ls (i + 2) (r .end)) ≡ rangeAt ls (r .end - 1) .time
+    unfolding lastTimeOf endTime
+    last-time =
+        let b = f .begins in
+        let w = f .within in
+        let k = r .end - 1 in
+        let m : k + 1 ≡ r .end = omega arith in
+        ap lastTimeOf (sym run-is ∙ ap (run ls i) (sym m) ∙ run-more ls a i k (omega arith) (omega arith)) ∙ last-append (run ls i k) (rangeAt ls k) []
+
+    look-is : outlook level (rangeAt ls i ∷ rangeAt ls (i + 1) ∷ run ls (i + 2) (r .end)) ≡ lookAhead (reduced (lineOf (r .polygon .slow))) (reduced (lineOf (r .polygon .fast))) level (rangeAt ls (r .end - 1) .time)
+    look-is =
+        let z = f .polygon-is h in
+        let s = rangeAt ls i in
+        let t = rangeAt ls (i + 1) in
+        let ws = run ls (i + 2) (r .end) in
+        let last = rangeAt ls (r .end - 1) .time in
+        let k = slow s t ws in
+        let l = fast s t ws in
+        let kp = slow-fits s t ws ordered line .positive in
+        let lp = fast-fits s t ws ordered line .positive in
+        outlook-by-lines s t ws ordered line (subst (λ x. x ≤ mostTime) (sym last-time) late) level
+        ∙ ap (λ x. lines (reduced k) (reduced l) (reachTime level x l) (reachTime level x k)) last-time
+        ∙ ap₂ (lines (reduced k) (reduced l))
+        (reachTime-same level last late lp (reduced-proper l lp .positive) (reduced-same l lp))
+        (reachTime-same level last late kp (reduced-proper k kp .positive) (reduced-same k kp))
+        ∙ ap₂ (λ x y. lookAhead (reduced x) (reduced y) level last) (sym (z .slow-is)) (sym (z .fast-is))
+
+    pub next-lines : NextSegment level ls i (foundAt ls i (r .end) (lookAhead (reduced (lineOf (r .polygon .slow))) (reduced (lineOf (r .polygon .fast))) level (rangeAt ls (r .end - 1) .time)))
+    unfolding segmentOf endTime
+    next-lines =
+        let n : length (run ls i (r .end)) ≡ r .end - i = run-long ls a i (r .end) (f .begins) (f .within) in
+        next-is ls a i (r .end) (f .begins) (f .within) (f .line) (f .closed) level _
+        (ap (segmentOf level) run-is
+        ∙ λ j. record { firstTime = rangeAt ls i .time; lastTime = last-time j; count = (ap length (sym run-is) ∙ n) j; outlook = look-is j })
+        refl

@@ -1,0 +1,102 @@
+// Every segment into the lent slices.
+ghost use lib.ListN.{length};
+ghost use Rattle.definitions.specs.Ranges.{rangesOf};
+ghost use Rattle.definitions.specs.Results.{segmentsOf};
+ghost use Rattle.drift.specs.Meanings.{segmentOf};
+ghost use Rattle.drift.specs.Columns.{columns, AllStored};
+ghost use Rattle.drift.specs.Filling.{StartReady, FillReady, NextSegment};
+use crate::outlook::outlook_of;
+use crate::rows;
+use crate::run::run_from;
+use crate::values::Outlook;
+use crate::values::Segment;
+
+// The segment that begins at a range: the run from there on, and its outlook.
+fn segment_from(
+    level: i32,
+    times: &[u32],
+    lows: &[i32],
+    highs: &[i32],
+    up: &mut [u32],
+    down: &mut [u32],
+    start: usize,
+) -> Segment
+    requires { ⌜ StartReady level (record { times = now times; lows = now lows; highs = now highs }) (length (now up)) (length (now down)) start ⌝ }
+    ensures { λ r. ⌜ NextSegment level (record { times = now (times .entry); lows = now (lows .entry); highs = now (highs .entry) }) start (segmentOf r) ⌝ }
+{
+    let n = times.len() as u32;
+    let begin = start as u32;
+    let found = run_from(times, highs, lows, up, down, begin, n);
+    let end = found.end;
+    let first_time = times[start];
+    let last_time = times[end as usize - 1];
+    let count = end - begin;
+    if count < 2 {
+        return Segment {
+            first_time,
+            last_time,
+            count,
+            outlook: Outlook::Open,
+        };
+    }
+    let polygon = found.polygon;
+    let slow = polygon.slow;
+    let fast = polygon.fast;
+    let outlook = outlook_of(slow, fast, level, last_time);
+    Segment {
+        first_time,
+        last_time,
+        count,
+        outlook,
+    }
+}
+
+// Stores each segment at its place, and counts them. `up` and `down` are room for the chains of the run at hand.
+pub fn fill(
+    level: i32,
+    times: &[u32],
+    lows: &[i32],
+    highs: &[i32],
+    up: &mut [u32],
+    down: &mut [u32],
+    first_times: &mut [u32],
+    last_times: &mut [u32],
+    counts: &mut [u32],
+    slow_ps: &mut [i64],
+    slow_qs: &mut [i64],
+    slow_ds: &mut [i64],
+    fast_ps: &mut [i64],
+    fast_qs: &mut [i64],
+    fast_ds: &mut [i64],
+    somes: &mut [u64],
+    alls: &mut [u64],
+) -> usize
+    requires { ⌜ FillReady level (record { times = now times; lows = now lows; highs = now highs }) (length (now up)) (length (now down)) (columns (now «first_times») (now «last_times») (now counts) (now «slow_ps») (now «slow_qs») (now «slow_ds») (now «fast_ps») (now «fast_qs») (now «fast_ds») (now somes) (now alls)) ⌝ }
+    ensures { λ r. ⌜ AllStored r (segmentsOf level (rangesOf (record { times = now (times .entry); lows = now (lows .entry); highs = now (highs .entry) }))) (columns (now («first_times» .entry)) (now («last_times» .entry)) (now (counts .entry)) (now («slow_ps» .entry)) (now («slow_qs» .entry)) (now («slow_ds» .entry)) (now («fast_ps» .entry)) (now («fast_qs» .entry)) (now («fast_ds» .entry)) (now (somes .entry)) (now (alls .entry))) (columns (now («first_times» .exit)) (now («last_times» .exit)) (now (counts .exit)) (now («slow_ps» .exit)) (now («slow_qs» .exit)) (now («slow_ds» .exit)) (now («fast_ps» .exit)) (now («fast_qs» .exit)) (now («fast_ds» .exit)) (now (somes .exit)) (now (alls .exit))) ⌝ }
+{
+    let mut start = 0;
+    let mut count = 0;
+    while start < times.len() {
+        let segment = segment_from(level, times, lows, highs, up, down, start);
+        let ranges = segment.count as usize;
+        let row = rows::row_of(segment);
+        rows::store_row(
+            count,
+            row,
+            first_times,
+            last_times,
+            counts,
+            slow_ps,
+            slow_qs,
+            slow_ds,
+            fast_ps,
+            fast_qs,
+            fast_ds,
+            somes,
+            alls,
+        );
+        start += ranges;
+        count += 1;
+    }
+    count
+}

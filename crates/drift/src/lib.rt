@@ -1,0 +1,83 @@
+// The segments of a trace, their outlooks, and the corners of the fit. Only the calls are open to outsiders.
+mod chain; // chain.rt: the polygon of a fit as two chains and two lines, and what a new end leaves of the chains
+mod corner_list; // corner_list.rt: the corners of the fit into three lent slices
+mod cut; // cut.rt: the polygon with one more range
+mod filling; // filling.rt: every segment into the lent slices
+mod line; // line.rt: a line in lowest terms, and its side of a level
+mod numbers; // numbers.rt: the greatest common divisor, and the quotient rounded up
+mod outlook; // outlook.rt: when a line reaches a level, and the outlook of two lines
+mod points; // points.rt: the ends of ranges as points, and the lines through them
+mod rows; // rows.rt: segments as rows of numbers, and rows into the lent slices
+mod run; // run.rt: the run that begins at a range
+mod values; // values.rt: lines, times, outlooks and segments, by value
+
+ghost use Rattle.drift.specs.Columns.{columns};
+ghost use Rattle.drift.specs.SegmentPromise.{SegmentPromise};
+
+// The number of segments, or the number of a refusal.
+pub enum SegmentAnswer {
+    Accepted(usize),
+    Refused(u8),
+}
+
+// Document 01's Segment.
+pub fn segment(
+    level: i32,
+    times: &[u32],
+    lows: &[i32],
+    highs: &[i32],
+    first_times: &mut [u32],
+    last_times: &mut [u32],
+    counts: &mut [u32],
+    slow_ps: &mut [i64],
+    slow_qs: &mut [i64],
+    slow_ds: &mut [i64],
+    fast_ps: &mut [i64],
+    fast_qs: &mut [i64],
+    fast_ds: &mut [i64],
+    somes: &mut [u64],
+    alls: &mut [u64],
+) -> SegmentAnswer
+    ensures { λ r. ⌜ SegmentPromise level (record { times = now (times .entry); lows = now (lows .entry); highs = now (highs .entry) }) (columns (now («first_times» .entry)) (now («last_times» .entry)) (now (counts .entry)) (now («slow_ps» .entry)) (now («slow_qs» .entry)) (now («slow_ds» .entry)) (now («fast_ps» .entry)) (now («fast_qs» .entry)) (now («fast_ds» .entry)) (now (somes .entry)) (now (alls .entry))) (columns (now («first_times» .exit)) (now («last_times» .exit)) (now (counts .exit)) (now («slow_ps» .exit)) (now («slow_qs» .exit)) (now («slow_ds» .exit)) (now («fast_ps» .exit)) (now («fast_qs» .exit)) (now («fast_ds» .exit)) (now (somes .exit)) (now (alls .exit))) r ⌝ }
+{
+    let short = rows::too_short(
+        first_times.len(),
+        last_times.len(),
+        counts.len(),
+        slow_ps.len(),
+        slow_qs.len(),
+        slow_ds.len(),
+        fast_ps.len(),
+        fast_qs.len(),
+        fast_ds.len(),
+        somes.len(),
+        alls.len(),
+    );
+    let outside = trial::value_outside(level);
+    let number = trial::try_lists(short, outside, times, lows, highs);
+    if number != 0 {
+        return SegmentAnswer::Refused(number);
+    }
+    let mut up = [0u32; 4096];
+    let mut down = [0u32; 4096];
+    let count = filling::fill(
+        level,
+        times,
+        lows,
+        highs,
+        &mut up,
+        &mut down,
+        first_times,
+        last_times,
+        counts,
+        slow_ps,
+        slow_qs,
+        slow_ds,
+        fast_ps,
+        fast_qs,
+        fast_ds,
+        somes,
+        alls,
+    );
+    SegmentAnswer::Accepted(count)
+}

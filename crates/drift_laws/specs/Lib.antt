@@ -1,0 +1,9 @@
+pub mod TestedSigns
+pub mod RangeEnds
+pub mod EndReads
+pub mod ChainParts
+pub mod ChainLines
+pub mod PolygonSteps
+pub mod RunSteps
+pub mod RunsByPlace
+pub mod LineRows
