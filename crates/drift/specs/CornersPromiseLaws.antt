@@ -8,9 +8,9 @@
 --
 -- Assumes nothing.
 use Prim.Native.Nat.{ℕ, _≤_, _<_, _+_}
-use mathlib.Core.Path.{_≡_, refl, sym, ap, _∙_}
+use mathlib.Core.Path.{_≡_, sym, ap, _∙_}
 use mathlib.Core.Bool.{Bool, true, false, _||_}
-use mathlib.Core.List.{List, [], _∷_, _++_, map}
+use mathlib.Core.List.{List, [], _++_, map}
 use native.Mathlib.Omega.{arith}
 use borrow.Author.Tests.{ltb-false}
 use lib.Dec.{ltb, eqb}
@@ -19,7 +19,7 @@ use lib.ListN.{length, drop, length-map}
 use Rattle.integers.specs.Booleans.{or-neither}
 use Rattle.integers.specs.Lists.{any}
 use Rattle.definitions.specs.Spans.{cornerRoom}
-use Rattle.definitions.specs.Ranges.{Range, Lists, rangesOf}
+use Rattle.definitions.specs.Ranges.{Lists, rangesOf}
 use Rattle.definitions.specs.Lines.{Line}
 use Rattle.definitions.specs.Corners.{corners}
 use Rattle.definitions.specs.Segments.{runningAfter}

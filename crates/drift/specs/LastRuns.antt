@@ -7,7 +7,7 @@
 --     reached-last               so it is where the run goes up to k
 --
 -- Assumes nothing.
-use mathlib.Core.Path.{_≡_, refl, sym, ap, ap₂, _∙_, subst}
+use mathlib.Core.Path.{_≡_, sym, ap, ap₂, _∙_, subst}
 use mathlib.Core.List.{List, [], _∷_, _++_}
 use Prim.Native.Nat.{ℕ, suc, _+_, _-_, _<_, _≤_}
 use native.Mathlib.Omega.{arith}
@@ -16,7 +16,7 @@ use lib.Seq.{take-append-add}
 use Rattle.definitions.specs.Ranges.{Range, Lists, rangesOf}
 use Rattle.definitions.specs.Lines.{hasLine}
 use Rattle.definitions.specs.Fit.{HasLine, Ordered}
-use Rattle.definitions.specs.Splits.{cut, lastRun, GoodRun}
+use Rattle.definitions.specs.Splits.{lastRun, GoodRun}
 use Rattle.definitions.specs.Segments.{segments, runningAfter}
 use Rattle.trial_laws.specs.RangeLists.{rangeAt, ranges-drop}
 use Rattle.trial_laws.specs.Accepted.{AcceptedLists}

@@ -16,6 +16,7 @@ pub mod RunCorners
 pub mod LastRuns
 pub mod CornersPromise
 pub mod CornersPromiseLaws
+pub mod CornerTheorems
 pub mod Columns
 pub mod ColumnLaws
 pub mod Rows

@@ -7,7 +7,6 @@ use mathlib.Core.List.{List}
 use native.Mathlib.Omega.{arith}
 use borrow.Author.Needs.{needs}
 use lib.ListN.{length}
-use lib.IntN.{ℤ}
 use Rattle.definitions.specs.Spans.{mostRanges, cornerRoom}
 use Rattle.definitions.specs.Ranges.{Lists}
 use Rattle.definitions.specs.Answers.{Row, refused, accepted, firstRow, refusal}

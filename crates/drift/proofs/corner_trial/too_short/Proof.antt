@@ -1,5 +1,5 @@
 -- `drift::corner_trial::too_short` meets its contract: three tests in the order of the definition's list. Assumes nothing.
-use mathlib.Core.Path.{_≡_, refl, sym, _∙_}
+use mathlib.Core.Path.{_≡_, refl}
 use mathlib.Core.Bool.{Bool, true, false, _||_}
 use borrow.Author.Tests.{lt-ltb, le-ltb}
 use Rattle.integers.specs.Lists.{any}
