@@ -13,6 +13,10 @@ pub mod Joins
 pub mod RunsFrom
 pub mod CornerRows
 pub mod RunCorners
+pub mod LastRuns
+pub mod CornersPromise
+pub mod CornersPromiseLaws
+pub mod CornerTheorems
 pub mod Columns
 pub mod ColumnLaws
 pub mod Rows

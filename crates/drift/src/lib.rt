@@ -1,8 +1,10 @@
 // The segments of a trace, their outlooks, and the corners of the fit. Only the calls are open to outsiders.
 mod chain; // chain.rt: the polygon of a fit as two chains and two lines, and what a new end leaves of the chains
 mod corner_list; // corner_list.rt: the corners of the fit into three lent slices
+mod corner_trial; // corner_trial.rt: what Corners tries besides its lists
 mod cut; // cut.rt: the polygon with one more range
 mod filling; // filling.rt: every segment into the lent slices
+mod last_run; // last_run.rt: the segment then running after some ranges
 mod line; // line.rt: a line in lowest terms, and its side of a level
 mod numbers; // numbers.rt: the greatest common divisor, and the quotient rounded up
 mod outlook; // outlook.rt: when a line reaches a level, and the outlook of two lines
@@ -13,6 +15,7 @@ mod values; // values.rt: lines, times, outlooks and segments, by value
 
 ghost use Rattle.drift.specs.Columns.{columns};
 ghost use Rattle.drift.specs.SegmentPromise.{SegmentPromise};
+ghost use Rattle.drift.specs.CornersPromise.{CornersPromise};
 
 // The number of segments, or the number of a refusal.
 pub enum SegmentAnswer {
@@ -80,4 +83,44 @@ pub fn segment(
         alls,
     );
     SegmentAnswer::Accepted(count)
+}
+
+// The number of corners, or that the fit is open, or the number of a refusal.
+pub enum CornersAnswer {
+    Corners(usize),
+    Open,
+    Refused(u8),
+}
+
+// Document 01's Corners after the first k ranges.
+pub fn corners(
+    k: usize,
+    times: &[u32],
+    lows: &[i32],
+    highs: &[i32],
+    ps: &mut [i64],
+    qs: &mut [i64],
+    ds: &mut [i64],
+) -> CornersAnswer
+    ensures { λ r. ⌜ CornersPromise k (record { times = now (times .entry); lows = now (lows .entry); highs = now (highs .entry) }) (now (ps .entry)) (now (qs .entry)) (now (ds .entry)) (now (ps .exit)) (now (qs .exit)) (now (ds .exit)) r ⌝ }
+{
+    let short = corner_trial::too_short(ps.len(), qs.len(), ds.len());
+    let number = trial::try_lists(short, false, times, lows, highs);
+    if number != 0 {
+        return CornersAnswer::Refused(number);
+    }
+    if corner_trial::count_outside(k, times.len()) {
+        return CornersAnswer::Refused(9);
+    }
+    let mut up = [0u32; 4096];
+    let mut down = [0u32; 4096];
+    let end = k as u32;
+    let found = last_run::last_run(times, highs, lows, &mut up, &mut down, end);
+    let start = found.start;
+    if end - start < 2 {
+        return CornersAnswer::Open;
+    }
+    let polygon = found.polygon;
+    let count = corner_list::list_corners(times, highs, lows, &up, &down, polygon, ps, qs, ds);
+    CornersAnswer::Corners(count)
 }
