@@ -8,11 +8,12 @@
 --     same-dec                   whether two lines are the same line
 --
 -- Assumes nothing.
-use mathlib.Core.Path.{_≡_, refl, sym, _∙_, ap₂, subst}
+use mathlib.Core.Path.{_≡_, refl, sym, _∙_, ap, ap₂, subst}
 use mathlib.Core.List.{List, [], _∷_}
 use mathlib.Core.Logic.{_⊎_, inl, inr}
-use Prim.Native.Nat.{ℕ, _<_}
+use Prim.Native.Nat.{ℕ, suc, _<_}
 use lib.IntN.{ℤ, pos, negsuc, natAbs, _+ℤ_, _*ℤ_}
+use lib.ListN.{length}
 use lib.Signed.{_≤ℤ_, _<ℤ_}
 use Rattle.integers.specs.OrderLaws.{≤ℤ-or-<ℤ, ≤ℤ-antisym, ≤ℤ-of-≡, ≤ℤ-<ℤ-⊥, <ℤ→≤ℤ, mul-pos, mul-nonneg, nonneg-pos}
 use Rattle.integers.specs.RingSolver.{var, lit, _:*_}
@@ -32,6 +33,11 @@ use Rattle.chains.specs.CornersOfChains.{CornerOf}
 unfoldable pub naturalWeights : {ls : List Line} → Weights ls → List ℕ
 naturalWeights none = []
 naturalWeights (more {l} w h ws) = natAbs (w *ℤ l .d) ∷ naturalWeights ws
+
+one-weight-each : {ls : List Line} (ws : Weights ls) → length (naturalWeights ws) ≡ length ls
+unfolding naturalWeights
+one-weight-each none = refl
+one-weight-each (more w h ws) = ap suc (one-weight-each ws)
 
 abbrev Positive : List Line → Type 0
 Positive ls = All (λ l. pos 0 <ℤ l .d) ls
@@ -67,6 +73,7 @@ module _ {ls : List Line} {l : Line} (ps : Positive ls) (l-over : pos 0 <ℤ l .
   pub mean-of-whole : IsMean (naturalWeights (m .weights)) ls l
   mean-of-whole =
       record {
+        one-each = one-weight-each (m .weights);
         not-all-0 = un-time< 0 (total (naturalWeights (m .weights))) (subst (λ z. pos 0 <ℤ z) total-eq (mul-pos (m .c-over) l-over));
         slope = mean-of (λ k. k .p) (m .on-p);
         intercept = mean-of (λ k. k .q) (m .on-q);

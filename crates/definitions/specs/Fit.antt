@@ -5,7 +5,7 @@
 --     Ordered                no low is above its high, and times rise strictly: what is true of the ranges of a trace
 --     SameLine               the same slope and the same intercept
 --     SlopeBelow             one line's slope is below another's
---     IsMean, WeightedMean   weights are whole numbers, none below 0 and not all 0; the mean is taken slope by slope and intercept by intercept
+--     IsMean, WeightedMean   weights are whole numbers, one to each line, none below 0 and not all 0; the mean is taken slope by slope and intercept by intercept
 --     StrictlyBetween        a mean of two other lines, both with a weight above 0
 --     Corner                 a line of the fit that is not strictly between two other lines of it
 --     InCornerOrder          least slope, above the diagonal by rising slope, greatest slope, below the diagonal by falling slope
@@ -16,6 +16,7 @@ use mathlib.Core.Path.{_≡_}
 use mathlib.Core.List.{List, [], _∷_, _++_, reverse}
 use Prim.Native.Nat.{ℕ, _+_, _<_}
 use lib.IntN.{ℤ, pos, _+ℤ_, _*ℤ_}
+use lib.ListN.{length}
 use lib.Signed.{_≤ℤ_, _<ℤ_}
 use Rattle.integers.specs.Lists.{All}
 use Rattle.definitions.specs.Ranges.{Range}
@@ -73,6 +74,7 @@ abbrev pub MeanOf : (Line → ℤ) → List ℕ → List Line → Line → Type 
 MeanOf f ws ls l = weightedSum f ws ls .num *ℤ l .d ≡ pos (total ws) *ℤ f l *ℤ weightedSum f ws ls .den
 
 pub record IsMean (ws : List ℕ) (ls : List Line) (l : Line) : Type 0 where
+  pub one-each : length ws ≡ length ls
   pub not-all-0 : 0 < total ws
   pub slope : MeanOf (λ k. k .p) ws ls l
   pub intercept : MeanOf (λ k. k .q) ws ls l

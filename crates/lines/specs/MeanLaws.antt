@@ -6,7 +6,7 @@
 --     between-means          a line that passes the test `between` for two others is strictly between them
 --
 -- Assumes nothing.
-use mathlib.Core.Path.{_≡_, refl, ap, subst₂}
+use mathlib.Core.Path.{_≡_, refl, sym, _∙_, ap, subst₂}
 use mathlib.Core.Bool.{_&&_}
 use mathlib.Core.List.{List, [], _∷_, map}
 use Prim.Native.Nat.{ℕ, _+_, _<_}
@@ -14,6 +14,7 @@ use native.Mathlib.Nat.{add-zero}
 use native.Mathlib.Omega.{arith}
 use lib.Dec.{T}
 use lib.IntN.{ℤ, pos, negsuc, natAbs, _+ℤ_, _-ℤ_, _*ℤ_}
+use lib.ListN.{length-map}
 use lib.Signed.{_<ℤ_}
 use Rattle.integers.specs.Parts.{ints}
 use Rattle.integers.specs.OrderLaws.{nonneg-pos, <ℤ→≤ℤ, mul-pos, sub-pos}
@@ -83,6 +84,7 @@ mean-reduced {ls} {l} h m =
       weights = m .weights;
       mean =
           record {
+            one-each = e .one-each ∙ sym (length-map ls reduced);
             not-all-0 = e .not-all-0;
             slope = mean-of-reduced (λ k. k .p) (λ x y s. s .slope) (m .weights) l h (e .slope);
             intercept = mean-of-reduced (λ k. k .q) (λ x y s. s .intercept) (m .weights) l h (e .intercept);
@@ -92,6 +94,7 @@ mean-reduced {ls} {l} h m =
 pub mean-same : {ws : List ℕ} {ls : List Line} {l m : Line} → Restates l m → IsMean ws ls l → IsMean ws ls m
 mean-same {ws} {ls} r e =
     record {
+      one-each = e .one-each;
       not-all-0 = e .not-all-0;
       slope = mean-of-same (λ k. k .p) (λ x y s. s .slope) ws ls r (e .slope);
       intercept = mean-of-same (λ k. k .q) (λ x y s. s .intercept) ws ls r (e .intercept);
@@ -213,7 +216,7 @@ module _ {j k l : Line} (j-over : Positive j) (k-over : Positive k) (l-over : Po
         second = m .second;
         first-over = m .first-over;
         second-over = m .second-over;
-        mean = record { not-all-0 = some-weight (m .first) (m .second) (m .first-over); slope = m .along; intercept = m .across };
+        mean = record { one-each = refl; not-all-0 = some-weight (m .first) (m .second) (m .first-over); slope = m .along; intercept = m .across };
         not-first = precedes-distinct j-before;
         not-second = λ s. precedes-distinct k-after (same-sym s);
       }
