@@ -69,6 +69,10 @@ trace ts us vs = record { times = ts; lows = us; highs = vs }
 abbrev sample : Lists
 sample = trace (10 ∷ 20 ∷ 30 ∷ 40 ∷ 50 ∷ []) (pos 0 ∷ pos 4 ∷ pos 10 ∷ pos 9 ∷ pos 9 ∷ []) (pos 4 ∷ pos 8 ∷ pos 14 ∷ pos 11 ∷ pos 12 ∷ [])
 
+-- the first three ranges of the sample, upside down: a fit with two corners below the diagonal
+abbrev turned : Lists
+turned = trace (10 ∷ 20 ∷ 30 ∷ []) (minus 4 ∷ minus 8 ∷ minus 14 ∷ []) (pos 0 ∷ minus 4 ∷ minus 10 ∷ [])
+
 -- three ranges that are points, the last at u
 abbrev points : ℤ → Lists
 points u = trace (0 ∷ 1 ∷ 2 ∷ []) (pos 0 ∷ pos 1 ∷ u ∷ []) (pos 0 ∷ pos 1 ∷ u ∷ [])
@@ -109,6 +113,7 @@ pub table : List Case
 table =
     cornersAfter 3 sample gives fitIs (line (pos 3) (pos 10) (pos 10) ∷ line (pos 2) (pos 0) (pos 5) ∷ line (pos 3) (minus 20) (pos 5) ∷ line (pos 7) (minus 70) (pos 10) ∷ line (pos 1) (minus 10) (pos 2) ∷ [])
     ∷ cornersAfter 5 sample gives fitIs (line (minus 1) (pos 95) (pos 5) ∷ line (pos 1) (pos 70) (pos 10) ∷ line (pos 3) (minus 30) (pos 10) ∷ line (pos 0) (pos 9) (pos 1) ∷ [])
+    ∷ cornersAfter 3 turned gives fitIs (line (minus 7) (pos 70) (pos 10) ∷ line (minus 1) (pos 10) (pos 2) ∷ line (minus 3) (minus 10) (pos 10) ∷ line (minus 2) (pos 0) (pos 5) ∷ line (minus 3) (pos 20) (pos 5) ∷ [])
     ∷ segment (pos 20) sample gives segmentsAre
     (part 10 30 3 (lines (line (pos 3) (pos 10) (pos 10)) (line (pos 7) (minus 70) (pos 10)) (at 39) (at 64))
     ∷ part 40 50 2 (lines (line (minus 1) (pos 95) (pos 5)) (line (pos 3) (minus 30) (pos 10)) (at 77) none)
