@@ -1,4 +1,4 @@
--- The trial traces of document 01 that are marked to be proved: one table, and one theorem that each case gives what is expected.
+-- The trial traces of document 01 that are marked to be proved, and its report: one table, and one theorem that each case gives what is expected.
 --
 --     table                  a call and its result, for each case
 --     table-holds            each call gives its result, by computation
@@ -27,22 +27,26 @@ use Rattle.definitions.specs.Answers.{Answer, refused, accepted, _>>=_, 
 use Rattle.definitions.specs.Trial.{outside, badAddress, notAbove, rangeRows, rangesRows, tooShort, differ, listRows, segmentRows, cornerRows}
 use Rattle.definitions.specs.TraceFile.{Trace, word, signed, header, takeField, addressOf, levelOf, rangeOf, addressRows, levelRows, readRanges, readFile}
 use Rattle.definitions.specs.Calls.{Fit, bounded, fitOf, segmentCall, cornersCall, readCall}
+use Rattle.definitions.specs.Report.{ascii, digitsWithin, decimal, signedDecimal, timeText, lineText, outlookText, segmentLine, segmentLines, traceLine, refusedLine, traceText, reportText, report, reportRoom, reportCall}
 
--- Segment with a level and lists, Corners with k and lists, or Read with a file; the lent slices are as long as they must be
+-- Segment with a level and lists, Corners with k and lists, or Read or the report with a file; the lent slices are as long as they must be
 pub data Call : Type 0 where
   segment : ℤ → Lists → Call
   cornersAfter : ℕ → Lists → Call
   read : List ℕ → Call
+  print : List ℕ → Call
 
 pub data Result : Type 0 where
   segmented : Answer (List Segment) → Result
   cornered : Answer Fit → Result
   opened : Answer Trace → Result
+  printed : Answer (List ℕ) → Result
 
 pub run : Call → Result
 run (segment level ls) = segmented (segmentCall (replicate 11 segmentRoom) level ls)
 run (cornersAfter k ls) = cornered (cornersCall (replicate 3 cornerRoom) k ls)
 run (read bs) = opened (readCall (replicate 3 readRoom) bs)
+run (print bs) = printed (reportCall (reportRoom ∷ []) bs)
 
 infix 85 _gives_
 pub data Case : Type 0 where
@@ -107,6 +111,9 @@ part a b n o = record { firstTime = a; lastTime = b; count = n; outlook = o }
 abbrev traceIs : List Range → Result
 traceIs rs = opened (accepted (record { address = 7; level = pos 20; ranges = rs }))
 
+abbrev textIs : List ℕ → Result
+textIs bytes = printed (accepted bytes)
+
 -- ---- the table
 
 pub table : List Case
@@ -132,8 +139,14 @@ table =
     ∷ read header11 gives traceIs []
     ∷ read sampleFile gives traceIs (rangesOf sample)
     ∷ cornersAfter 0 sample gives cornered (refused 9)
+    ∷ print sampleFile gives textIs
+    (ascii "detector 7 level 20 ranges 5 segments 2\n"
+    ++ ascii "segment 1 from 10 to 30 ranges 3 slow 3 10 10 fast 7 -70 10 some 39 all 64\n"
+    ++ ascii "segment 2 from 40 to 50 ranges 2 slow -1 95 5 fast 3 -30 10 some 77 all none\n")
+    ∷ print (header11 ++ rangeField 10 0 4) gives textIs (ascii "detector 7 level 20 ranges 1 segments 1\nsegment 1 from 10 to 10 ranges 1 open\n")
+    ∷ print [] gives textIs (ascii "refused 1\n")
     ∷ []
 
 pub table-holds : map (λ c. run (callOf c)) table ≡ map resultOf table
-unfolding table run callOf resultOf all any filter reading fitsRange fits sideAt notBelow atOrAbove through throughEnds candidatesFrom candidates hasLine euclid gcd commonDivisor reduced before side between betweenSome insert sorted fitting extreme getLastD cornerOrder corners cutFrom cut lastRun segments runningAfter scan firstByEnds first someTime allTime outlookOf endTime outlook segmentOf segmentsOf _>>=_ firstRow outside badAddress notAbove rangeRows rangesRows tooShort zipRanges rangesOf differ listRows segmentRows cornerRows word signed header takeField addressOf levelOf rangeOf addressRows levelRows readRanges readFile fitOf readCall segmentCall cornersCall
+unfolding table run callOf resultOf all any filter reading fitsRange fits sideAt notBelow atOrAbove through throughEnds candidatesFrom candidates hasLine euclid gcd commonDivisor reduced before side between betweenSome insert sorted fitting extreme getLastD cornerOrder corners cutFrom cut lastRun segments runningAfter scan firstByEnds first someTime allTime outlookOf endTime outlook segmentOf segmentsOf _>>=_ firstRow outside badAddress notAbove rangeRows rangesRows tooShort zipRanges rangesOf differ listRows segmentRows cornerRows word signed header takeField addressOf levelOf rangeOf addressRows levelRows readRanges readFile fitOf readCall segmentCall cornersCall digitsWithin decimal signedDecimal timeText lineText outlookText segmentLine segmentLines traceLine refusedLine traceText reportText report reportCall
 table-holds = refl

@@ -12,4 +12,5 @@ pub mod Answers
 pub mod Trial
 pub mod TraceFile
 pub mod Calls
+pub mod Report
 pub mod Cases
