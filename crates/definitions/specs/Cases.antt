@@ -27,7 +27,7 @@ use Rattle.definitions.specs.Answers.{Answer, refused, accepted, _>>=_, 
 use Rattle.definitions.specs.Trial.{outside, badAddress, notAbove, rangeRows, rangesRows, tooShort, differ, listRows, segmentRows, cornerRows}
 use Rattle.definitions.specs.TraceFile.{Trace, word, signed, header, takeField, addressOf, levelOf, rangeOf, addressRows, levelRows, readRanges, readFile}
 use Rattle.definitions.specs.Calls.{Fit, bounded, fitOf, segmentCall, cornersCall, readCall}
-use Rattle.definitions.specs.Report.{ascii, digitsWithin, decimal, signedDecimal, timeText, lineText, outlookText, segmentLine, segmentLines, traceLine, refusedLine, traceText, reportText, report, reportRoom, reportCall}
+use Rattle.definitions.specs.Report.{ascii, digitsWithin, decimal, signedDecimal, timeText, lineText, outlookText, spanText, segmentLine, segmentLines, traceLine, refusedLine, traceText, reportText, report, reportRoom, reportCall}
 
 -- Segment with a level and lists, Corners with k and lists, or Read or the report with a file; the lent slices are as long as they must be
 pub data Call : Type 0 where
@@ -148,5 +148,5 @@ table =
     ∷ []
 
 pub table-holds : map (λ c. run (callOf c)) table ≡ map resultOf table
-unfolding table run callOf resultOf all any filter reading fitsRange fits sideAt notBelow atOrAbove through throughEnds candidatesFrom candidates hasLine euclid gcd commonDivisor reduced before side between betweenSome insert sorted fitting extreme getLastD cornerOrder corners cutFrom cut lastRun segments runningAfter scan firstByEnds first someTime allTime outlookOf endTime outlook segmentOf segmentsOf _>>=_ firstRow outside badAddress notAbove rangeRows rangesRows tooShort zipRanges rangesOf differ listRows segmentRows cornerRows word signed header takeField addressOf levelOf rangeOf addressRows levelRows readRanges readFile fitOf readCall segmentCall cornersCall digitsWithin decimal signedDecimal timeText lineText outlookText segmentLine segmentLines traceLine refusedLine traceText reportText report reportCall
+unfolding table run callOf resultOf all any filter reading fitsRange fits sideAt notBelow atOrAbove through throughEnds candidatesFrom candidates hasLine euclid gcd commonDivisor reduced before side between betweenSome insert sorted fitting extreme getLastD cornerOrder corners cutFrom cut lastRun segments runningAfter scan firstByEnds first someTime allTime outlookOf endTime outlook segmentOf segmentsOf _>>=_ firstRow outside badAddress notAbove rangeRows rangesRows tooShort zipRanges rangesOf differ listRows segmentRows cornerRows word signed header takeField addressOf levelOf rangeOf addressRows levelRows readRanges readFile fitOf readCall segmentCall cornersCall digitsWithin decimal signedDecimal timeText lineText outlookText spanText segmentLine segmentLines traceLine refusedLine traceText reportText report reportCall
 table-holds = refl

@@ -47,26 +47,26 @@ signedDecimal (negsuc n) = ascii "-" ++ decimal (suc n)
 
 -- ---- lines
 
+-- a word, and what it tells
+abbrev pub labelled : String → List ℕ → List ℕ
+labelled word text = ascii word ++ text
+
 unfoldable pub timeText : Time → List ℕ
 timeText none = ascii "none"
 timeText (at t) = decimal t
 
--- p, q and d
-unfoldable pub lineText : Line → List ℕ
-lineText l = signedDecimal (l .p) ++ ascii " " ++ signedDecimal (l .q) ++ ascii " " ++ signedDecimal (l .d)
+unfoldable pub lineText : String → Line → List ℕ
+lineText word l = labelled word (signedDecimal (l .p)) ++ labelled " " (signedDecimal (l .q)) ++ labelled " " (signedDecimal (l .d))
 
 unfoldable pub outlookText : Outlook → List ℕ
 outlookText open-strip = ascii " open"
-outlookText (lines slow fast first every) = ascii " slow " ++ lineText slow ++ ascii " fast " ++ lineText fast ++ ascii " some " ++ timeText first ++ ascii " all " ++ timeText every
+outlookText (lines slow fast first every) = lineText " slow " slow ++ lineText " fast " fast ++ labelled " some " (timeText first) ++ labelled " all " (timeText every)
+
+unfoldable pub spanText : ℕ → ℕ → ℕ → ℕ → List ℕ
+spanText place first last count = labelled "segment " (decimal place) ++ labelled " from " (decimal first) ++ labelled " to " (decimal last) ++ labelled " ranges " (decimal count)
 
 unfoldable pub segmentLine : ℕ → Segment → List ℕ
-segmentLine place s =
-    ascii "segment " ++ decimal place
-    ++ ascii " from " ++ decimal (s .firstTime)
-    ++ ascii " to " ++ decimal (s .lastTime)
-    ++ ascii " ranges " ++ decimal (s .count)
-    ++ outlookText (s .outlook)
-    ++ ascii "\n"
+segmentLine place s = spanText place (s .firstTime) (s .lastTime) (s .count) ++ outlookText (s .outlook) ++ ascii "\n"
 
 -- the lines of segments whose first has this place
 unfoldable pub segmentLines : ℕ → List Segment → List ℕ
@@ -74,15 +74,10 @@ segmentLines place [] = []
 segmentLines place (s ∷ ss) = segmentLine place s ++ segmentLines (suc place) ss
 
 unfoldable pub traceLine : ℕ → ℤ → ℕ → ℕ → List ℕ
-traceLine address level ranges segments =
-    ascii "detector " ++ decimal address
-    ++ ascii " level " ++ signedDecimal level
-    ++ ascii " ranges " ++ decimal ranges
-    ++ ascii " segments " ++ decimal segments
-    ++ ascii "\n"
+traceLine address level ranges segments = labelled "detector " (decimal address) ++ labelled " level " (signedDecimal level) ++ labelled " ranges " (decimal ranges) ++ labelled " segments " (decimal segments) ++ ascii "\n"
 
 unfoldable pub refusedLine : ℕ → List ℕ
-refusedLine n = ascii "refused " ++ decimal n ++ ascii "\n"
+refusedLine n = labelled "refused " (decimal n) ++ ascii "\n"
 
 -- ---- the whole
 
