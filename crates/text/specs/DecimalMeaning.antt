@@ -1,0 +1,74 @@
+-- What a decimal number means: read digit by digit it is the number, and it has no zero in front.
+--
+--     valueOf                the number that digits tell, the most significant first
+--     decimal-value          the digits of n tell n
+--     decimal-digits         each byte is a digit
+--     decimal-first          the first digit is 0 only where the number is 0
+--
+-- Assumes nothing.
+use Prim.Native.Nat.{ℕ, zero, suc, _+_, _-_, _*_, _/_, _%_, _≤_, _<_}
+use mathlib.Core.Path.{_≡_, refl, sym, ap, _∙_, subst}
+use mathlib.Core.Bool.{Bool, true, false}
+use mathlib.Core.List.{List, [], _∷_, _++_}
+use native.Mathlib.Omega.{arith}
+use borrow.Author.Tests.{ltb-true, ltb-false}
+use lib.Dec.{ltb}
+use lib.ListN.{length, getD, length-append, List·getD-append}
+use Rattle.integers.specs.Lists.{All, nil, cons, All-append}
+use Rattle.definitions.specs.Report.{decimal}
+use Rattle.text.specs.DecimalLaws.{decimal-small, decimal-more}
+
+-- after digits that tell `front`
+abbrev valueAfter : ℕ → List ℕ → ℕ
+valueAfter front [] = front
+valueAfter front (b ∷ bs) = valueAfter (front * 10 + (b - 48)) bs
+
+abbrev pub valueOf : List ℕ → ℕ
+valueOf bs = valueAfter 0 bs
+
+value-append : (front : ℕ) (bs : List ℕ) (b : ℕ) → valueAfter front (bs ++ (b ∷ [])) ≡ valueAfter front bs * 10 + (b - 48)
+value-append front [] b = refl
+value-append front (c ∷ bs) b = value-append (front * 10 + (c - 48)) bs b
+
+abbrev Digit : ℕ → Type 0
+Digit b = (48 ≤ b) × (b < 58)
+
+-- what holds of n and, where n has more digits, of a tenth of it
+by-digits : (P : ℕ → Type 0) → ((n : ℕ) → n < 10 → P n) → ((n : ℕ) → 10 ≤ n → P (n / 10) → P n) → (n : ℕ) → P n
+by-digits P small more n = within (suc n) n (omega arith)
+  where
+    step : (n : ℕ) → (10 ≤ n → P (n / 10)) → (t : Bool) → ltb n 10 ≡ t → P n
+    step n front true e = small n (ltb-true n 10 e)
+    step n front false e = let large = ltb-false n 10 e in more n large (front large)
+
+    within : (k n : ℕ) → n < k → P n
+    within zero n h = absurd (omega arith)
+    within (suc k) n h = step n (λ large. within k (n / 10) (omega (arith, large))) (ltb n 10) refl
+
+pub decimal-value : (n : ℕ) → valueOf (decimal n) ≡ n
+decimal-value =
+    by-digits (λ n. valueOf (decimal n) ≡ n)
+    (λ n h. ap valueOf (decimal-small n h) ∙ omega arith)
+    (λ n h e. ap valueOf (decimal-more n h) ∙ value-append 0 (decimal (n / 10)) (48 + n % 10) ∙ omega (arith, e))
+
+pub decimal-digits : (n : ℕ) → All Digit (decimal n)
+decimal-digits =
+    by-digits (λ n. All Digit (decimal n))
+    (λ n h. subst (All Digit) (sym (decimal-small n h)) (cons (omega arith, omega arith) nil))
+    (λ n h front. subst (All Digit) (sym (decimal-more n h)) (All-append front (cons (omega arith, omega arith) nil)))
+
+-- there is a digit
+decimal-some : (n : ℕ) → 0 < length (decimal n)
+decimal-some =
+    by-digits (λ n. 0 < length (decimal n))
+    (λ n h. omega (arith, ap length (decimal-small n h)))
+    (λ n h front. omega (arith, front, ap length (decimal-more n h), length-append (decimal (n / 10)) ((48 + n % 10) ∷ [])))
+
+pub decimal-first : (n : ℕ) → getD (decimal n) 0 48 ≡ 48 → n ≡ 0
+decimal-first =
+    by-digits (λ n. getD (decimal n) 0 48 ≡ 48 → n ≡ 0)
+    (λ n h e. let first = ap (λ bs. getD bs 0 48) (decimal-small n h) in omega (arith, e, first))
+    (λ n h front e.
+    let same = ap (λ bs. getD bs 0 48) (decimal-more n h) ∙ List·getD-append (decimal (n / 10)) ((48 + n % 10) ∷ []) 48 0 (decimal-some (n / 10)) in
+    let tenth = front (sym same ∙ e) in
+    absurd (omega (arith, h, tenth)))

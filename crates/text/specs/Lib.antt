@@ -1,0 +1,5 @@
+pub mod Put
+pub mod PutLaws
+pub mod DecimalLaws
+pub mod SignLaws
+pub mod DecimalMeaning
