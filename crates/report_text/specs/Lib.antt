@@ -1,0 +1,10 @@
+pub mod Given
+pub mod Lines
+pub mod RowLaws
+pub mod Short
+pub mod GivenLaws
+pub mod BackLaws
+pub mod SegmentText
+pub mod ReadTraces
+pub mod ReportPromise
+pub mod ReportPromiseLaws
