@@ -1,0 +1,154 @@
+/*
+ * Humoraki: the segments of a smoke detector's trace, and when the detector must be serviced.
+ *
+ * Link with libhumoraki.a, which `rt staticlib humoraki` writes to target/staticlib/.
+ *
+ * Every function takes any numbers and any slices of any length, ends, and touches nothing but what it was lent.
+ * Each gives 0, or the number of a refusal; after a refusal everything that was lent holds its old contents.
+ *
+ *    1   the file ends before a needed field, or inside a field
+ *    2   the tag is not the one due
+ *    3   the length is not the tag's
+ *    4   address, level, low or high outside its span
+ *    5   low above high
+ *    6   time not above the one before
+ *    7   a 4,097th range
+ *    8   a lent slice to be filled is too short
+ *    9   k is 0 or above the number of ranges
+ *   10   times, lows and highs differ in length
+ *
+ * A slice is a pointer and the number of its entries. What C cannot say and a caller has to keep:
+ *   - no pointer is null, not even with a length of 0;
+ *   - each points to as many entries as the length beside it tells, aligned as its type asks;
+ *   - what a function fills overlaps nothing else that it is lent.
+ * After success, entries past the reported count hold their old contents.
+ */
+#ifndef HUMORAKI_H
+#define HUMORAKI_H
+
+#include <stddef.h>
+#include <stdint.h>
+
+#ifdef __cplusplus
+extern "C" {
+#endif
+
+/* The least number of entries in each slice that a function fills. */
+#define HUMORAKI_READ_ROOM 4096     /* times, lows, highs */
+#define HUMORAKI_WRITE_ROOM 61451   /* the bytes of a trace file */
+#define HUMORAKI_SEGMENT_ROOM 2048  /* each of the eleven slices of humoraki_segment */
+#define HUMORAKI_CORNER_ROOM 8192   /* ps, qs, ds */
+#define HUMORAKI_REPORT_ROOM 524544 /* the text of a report: 256 bytes for each of 2,049 lines */
+
+/* Stands for a time that there is not, in somes and alls. */
+#define HUMORAKI_NONE UINT64_C(4294967296)
+
+/*
+ * Reads a trace file.
+ *
+ * file     the file's bytes, of any number
+ * times    filled with the time of each range
+ * lows     filled with the low of each range
+ * highs    filled with the high of each range
+ * address  set to the detector's address, 1 to 255
+ * level    set to the service level
+ * ranges   set to the number of ranges
+ *
+ * Refusals: 8, then field by field 1 to 7.
+ */
+uint8_t humoraki_read(const uint8_t *file, size_t file_len,
+                      uint32_t *times, size_t times_len,
+                      int32_t *lows, size_t lows_len,
+                      int32_t *highs, size_t highs_len,
+                      uint16_t *address, int32_t *level, size_t *ranges);
+
+/*
+ * Writes a trace file.
+ *
+ * address             the detector's address, 1 to 255
+ * level               the service level, -268,435,456 to 268,435,456
+ * times, lows, highs  the ranges, in lists of one length
+ * file                filled with the file's bytes
+ * count               set to the number of bytes
+ *
+ * Refusals: 8, 10, 7, address and level 4, then range by range 4, 5, 6.
+ */
+uint8_t humoraki_write(uint16_t address, int32_t level,
+                       const uint32_t *times, size_t times_len,
+                       const int32_t *lows, size_t lows_len,
+                       const int32_t *highs, size_t highs_len,
+                       uint8_t *file, size_t file_len,
+                       size_t *count);
+
+/*
+ * The segments of a trace, with their slow and fast lines and their two times.
+ *
+ * level                         the service level, -268,435,456 to 268,435,456
+ * times, lows, highs            the ranges, in lists of one length
+ * first_times, last_times       filled with the time of each segment's first and last range
+ * counts                        filled with the number of each segment's ranges
+ * slow_ps, slow_qs, slow_ds     filled with the slow lines: the value at t is (p * t + q) / d
+ * fast_ps, fast_qs, fast_ds     filled with the fast lines
+ * somes                         filled with the first time from the segment's last on at which some fitting line is at
+ *                               or above the level, or HUMORAKI_NONE
+ * alls                          filled with the first such time at which every fitting line is, or HUMORAKI_NONE
+ * count                         set to the number of segments
+ *
+ * A segment of one range is open: it has 0 in the last eight of its eleven entries.
+ *
+ * Refusals: 8, 10, 7, level 4, then range by range 4, 5, 6.
+ */
+uint8_t humoraki_segment(int32_t level,
+                         const uint32_t *times, size_t times_len,
+                         const int32_t *lows, size_t lows_len,
+                         const int32_t *highs, size_t highs_len,
+                         uint32_t *first_times, size_t first_times_len,
+                         uint32_t *last_times, size_t last_times_len,
+                         uint32_t *counts, size_t counts_len,
+                         int64_t *slow_ps, size_t slow_ps_len,
+                         int64_t *slow_qs, size_t slow_qs_len,
+                         int64_t *slow_ds, size_t slow_ds_len,
+                         int64_t *fast_ps, size_t fast_ps_len,
+                         int64_t *fast_qs, size_t fast_qs_len,
+                         int64_t *fast_ds, size_t fast_ds_len,
+                         uint64_t *somes, size_t somes_len,
+                         uint64_t *alls, size_t alls_len,
+                         size_t *count);
+
+/*
+ * The corners of the fit of the segment then running after the first k ranges.
+ *
+ * k                   how many ranges, from 1 on
+ * times, lows, highs  the ranges, in lists of one length
+ * ps, qs, ds          filled with the corners, in corner order: the value at t is (p * t + q) / d
+ * count               set to the number of corners; 0 says that the fit is open, since the segment has one range so far
+ *
+ * Refusals: 8, 10, 7, range by range 4, 5, 6 over the whole lists, and last 9.
+ */
+uint8_t humoraki_corners(size_t k,
+                         const uint32_t *times, size_t times_len,
+                         const int32_t *lows, size_t lows_len,
+                         const int32_t *highs, size_t highs_len,
+                         int64_t *ps, size_t ps_len,
+                         int64_t *qs, size_t qs_len,
+                         int64_t *ds, size_t ds_len,
+                         size_t *count);
+
+/*
+ * The report of a trace file: a line for the trace and one for each segment, or `refused` and the number.
+ *
+ * file   the file's bytes, of any number
+ * text   filled with the report's bytes; each line ends with a line feed
+ * count  set to the number of bytes
+ *
+ * A file that is turned down has a report too, so 8, for a text that is too short, is the only refusal.
+ */
+uint8_t humoraki_report(const uint8_t *file, size_t file_len,
+                        uint8_t *text, size_t text_len,
+                        size_t *count);
+
+#ifdef __cplusplus
+}
+#endif
+
+#endif
