@@ -1,9 +1,10 @@
 // What other languages link: the calls on numbers and slices. Each gives 0, or the number of a refusal,
 // and puts its counts and records into lent numbers, which keep their old value after a refusal.
-use drift::CornersAnswer;
-use drift::SegmentAnswer;
+mod answers; // answers.rt: the answers of the calls with a count, as numbers
+
+ghost use Rattle.drift.specs.Columns.{columns};
+ghost use Rattle.humoraki.specs.Promises.{AfterRead, AfterWrite, AfterSegment, AfterCorners};
 use trace::ReadAnswer;
-use trace::WriteAnswer;
 
 // The trace of a file, with its address, level and number of ranges.
 #[no_mangle]
@@ -15,7 +16,9 @@ pub extern "C" fn humoraki_read(
     address: &mut u16,
     level: &mut i32,
     ranges: &mut usize,
-) -> u8 {
+) -> u8
+    ensures { λ r. ⌜ AfterRead (now (file .entry)) (record { times = now (times .entry); lows = now (lows .entry); highs = now (highs .entry); address = now (address .entry); level = now (level .entry); ranges = now (ranges .entry) }) (record { times = now (times .exit); lows = now (lows .exit); highs = now (highs .exit); address = now (address .exit); level = now (level .exit); ranges = now (ranges .exit) }) r ⌝ }
+{
     let answer = trace::read(file, times, lows, highs);
     match answer {
         ReadAnswer::Accepted(known) => {
@@ -39,15 +42,13 @@ pub extern "C" fn humoraki_write(
     highs: &[i32],
     file: &mut [u8],
     count: &mut usize,
-) -> u8 {
+) -> u8
+    ensures { λ r. ⌜ AfterWrite address level (record { times = now (times .entry); lows = now (lows .entry); highs = now (highs .entry) }) (record { file = now (file .entry); count = now (count .entry) }) (record { file = now (file .exit); count = now (count .exit) }) r ⌝ }
+{
     let answer = trace::write(address, level, times, lows, highs, file);
-    match answer {
-        WriteAnswer::Accepted(bytes) => {
-            *count = bytes;
-            0
-        }
-        WriteAnswer::Refused(number) => number,
-    }
+    let told = answers::of_write(answer, *count);
+    *count = told.count;
+    told.number
 }
 
 // The segments of a trace, and their count.
@@ -69,7 +70,9 @@ pub extern "C" fn humoraki_segment(
     somes: &mut [u64],
     alls: &mut [u64],
     count: &mut usize,
-) -> u8 {
+) -> u8
+    ensures { λ r. ⌜ AfterSegment level (record { times = now (times .entry); lows = now (lows .entry); highs = now (highs .entry) }) (record { columns = columns (now («first_times» .entry)) (now («last_times» .entry)) (now (counts .entry)) (now («slow_ps» .entry)) (now («slow_qs» .entry)) (now («slow_ds» .entry)) (now («fast_ps» .entry)) (now («fast_qs» .entry)) (now («fast_ds» .entry)) (now (somes .entry)) (now (alls .entry)); count = now (count .entry) }) (record { columns = columns (now («first_times» .exit)) (now («last_times» .exit)) (now (counts .exit)) (now («slow_ps» .exit)) (now («slow_qs» .exit)) (now («slow_ds» .exit)) (now («fast_ps» .exit)) (now («fast_qs» .exit)) (now («fast_ds» .exit)) (now (somes .exit)) (now (alls .exit)); count = now (count .exit) }) r ⌝ }
+{
     let answer = drift::segment(
         level,
         times,
@@ -87,13 +90,9 @@ pub extern "C" fn humoraki_segment(
         somes,
         alls,
     );
-    match answer {
-        SegmentAnswer::Accepted(segments) => {
-            *count = segments;
-            0
-        }
-        SegmentAnswer::Refused(number) => number,
-    }
+    let told = answers::of_segment(answer, *count);
+    *count = told.count;
+    told.number
 }
 
 // The corners of the fit of the segment then running after the first k ranges, and their count, which is 0 where the fit is open.
@@ -107,17 +106,11 @@ pub extern "C" fn humoraki_corners(
     qs: &mut [i64],
     ds: &mut [i64],
     count: &mut usize,
-) -> u8 {
+) -> u8
+    ensures { λ r. ⌜ AfterCorners k (record { times = now (times .entry); lows = now (lows .entry); highs = now (highs .entry) }) (record { ps = now (ps .entry); qs = now (qs .entry); ds = now (ds .entry); count = now (count .entry) }) (record { ps = now (ps .exit); qs = now (qs .exit); ds = now (ds .exit); count = now (count .exit) }) r ⌝ }
+{
     let answer = drift::corners(k, times, lows, highs, ps, qs, ds);
-    match answer {
-        CornersAnswer::Corners(corners) => {
-            *count = corners;
-            0
-        }
-        CornersAnswer::Open => {
-            *count = 0;
-            0
-        }
-        CornersAnswer::Refused(number) => number,
-    }
+    let told = answers::of_corners(answer, *count);
+    *count = told.count;
+    told.number
 }

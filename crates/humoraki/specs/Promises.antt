@@ -1,0 +1,102 @@
+-- What the library promises: the number that each call gives and the contents of everything that it was lent, by equations with document 01's calls.
+--
+--     given                                                what a lent number holds after a call
+--     Counts                                               the number and the lent count after a call with a count
+--     cornerNumber                                         what the answer of Corners tells of a fit, as a count
+--     ReadLent, WriteLent, SegmentLent, CornersLent        what a caller lends to be filled or set
+--     AfterRead, AfterWrite, AfterSegment, AfterCorners    the number, and what holds of all that after the call
+--
+-- The number is 0 where the call is accepted. Where it is refused, everything that was lent holds its old contents: so say `given` and `filled`.
+--
+-- Example: with h : AfterWrite address level ls old new r, `h .counted .count-is` is the equation of the lent count,
+-- new .count ≡ given (writeInto (old .file) address level ls) length (old .count).
+-- Assumes nothing.
+use Prim.Native.Nat.{ℕ}
+use mathlib.Core.Path.{_≡_}
+use mathlib.Core.List.{List, map}
+use lib.IntN.{ℤ}
+use lib.ListN.{length}
+use Rattle.definitions.specs.Ranges.{Lists}
+use Rattle.definitions.specs.Results.{Segment, numbersOf}
+use Rattle.definitions.specs.Answers.{Answer, refused, accepted, refusal, filled}
+use Rattle.definitions.specs.TraceFile.{Trace}
+use Rattle.definitions.specs.Calls.{Fit, segmentCall, cornersCall}
+use Rattle.trace.specs.Promises.{readInto, writeInto}
+use Rattle.drift.specs.Columns.{Columns, EachColumn, lengths}
+use Rattle.drift.specs.CornersPromise.{CornerCount, unbounded, corner-count, cornersIn, threeLengths}
+
+-- its old value where the call is refused; else a value of the result
+unfoldable pub given : {A B : Type 0} → Answer B → (B → A) → A → A
+given (refused n) value old = old
+given (accepted b) value old = value b
+
+pub record Counts {B : Type 0} (answer : Answer B) (size : B → ℕ) (old new number : ℕ) : Type 0 where
+  pub number-is : number ≡ refusal answer
+  pub count-is : new ≡ given answer size old
+
+-- ---- Read
+
+pub record ReadLent : Type 0 where
+  pub times : List ℕ
+  pub lows : List ℤ
+  pub highs : List ℤ
+  pub address : ℕ
+  pub level : ℤ
+  pub ranges : ℕ
+
+abbrev pub readAnswer : List ℕ → ReadLent → Answer Trace
+readAnswer file old = readInto (old .times) (old .lows) (old .highs) file
+
+pub record AfterRead (file : List ℕ) (old new : ReadLent) (r : ℕ) : Type 0 where
+  pub number-is : r ≡ refusal (readAnswer file old)
+  pub times-are : new .times ≡ filled (readAnswer file old) (λ t. map (λ r. r .time) (t .ranges)) (old .times)
+  pub lows-are : new .lows ≡ filled (readAnswer file old) (λ t. map (λ r. r .low) (t .ranges)) (old .lows)
+  pub highs-are : new .highs ≡ filled (readAnswer file old) (λ t. map (λ r. r .high) (t .ranges)) (old .highs)
+  pub address-is : new .address ≡ given (readAnswer file old) (λ t. t .address) (old .address)
+  pub level-is : new .level ≡ given (readAnswer file old) (λ t. t .level) (old .level)
+  pub ranges-is : new .ranges ≡ given (readAnswer file old) (λ t. length (t .ranges)) (old .ranges)
+
+-- ---- Write
+
+pub record WriteLent : Type 0 where
+  pub file : List ℕ
+  pub count : ℕ
+
+pub record AfterWrite (address : ℕ) (level : ℤ) (ls : Lists) (old new : WriteLent) (r : ℕ) : Type 0 where
+  pub counted : Counts (writeInto (old .file) address level ls) length (old .count) (new .count) r
+  pub file-is : new .file ≡ filled (writeInto (old .file) address level ls) (λ bytes. bytes) (old .file)
+
+-- ---- Segment
+
+pub record SegmentLent : Type 0 where
+  pub columns : Columns
+  pub count : ℕ
+
+abbrev pub segmentAnswer : ℤ → Lists → SegmentLent → Answer (List Segment)
+segmentAnswer level ls old = segmentCall (lengths (old .columns)) level ls
+
+pub record AfterSegment (level : ℤ) (ls : Lists) (old new : SegmentLent) (r : ℕ) : Type 0 where
+  pub counted : Counts (segmentAnswer level ls old) length (old .count) (new .count) r
+  pub columns-are : EachColumn (λ A number column. column (new .columns) ≡ filled (segmentAnswer level ls old) (λ ss. map (λ s. number (numbersOf s)) ss) (column (old .columns)))
+
+-- ---- Corners: an open fit has none
+
+pub record CornersLent : Type 0 where
+  pub ps : List ℤ
+  pub qs : List ℤ
+  pub ds : List ℤ
+  pub count : ℕ
+
+-- what the call below tells of a fit, as a count
+unfoldable pub cornerNumber : CornerCount → ℕ
+cornerNumber unbounded = 0
+cornerNumber (corner-count n) = n
+
+abbrev pub cornersAnswer : ℕ → Lists → CornersLent → Answer Fit
+cornersAnswer k ls old = cornersCall (threeLengths (old .ps) (old .qs) (old .ds)) k ls
+
+pub record AfterCorners (k : ℕ) (ls : Lists) (old new : CornersLent) (r : ℕ) : Type 0 where
+  pub counted : Counts (cornersAnswer k ls old) (λ fit. length (cornersIn fit)) (old .count) (new .count) r
+  pub ps-are : new .ps ≡ filled (cornersAnswer k ls old) (λ fit. map (λ l. l .p) (cornersIn fit)) (old .ps)
+  pub qs-are : new .qs ≡ filled (cornersAnswer k ls old) (λ fit. map (λ l. l .q) (cornersIn fit)) (old .qs)
+  pub ds-are : new .ds ≡ filled (cornersAnswer k ls old) (λ fit. map (λ l. l .d) (cornersIn fit)) (old .ds)

@@ -1,0 +1,63 @@
+-- The number that the library gives is 0 exactly where the call is accepted: no refusal has the number 0.
+--
+--     Accepted answer                                    the answer is accepted, with some result
+--     read-zero, write-zero, segment-zero, corners-zero  of each call
+--
+-- Assumes nothing.
+use Prim.Native.Nat.{ℕ, _<_}
+use mathlib.Core.Path.{_≡_, refl, sym}
+use mathlib.Core.Logic.{_↔_}
+use mathlib.Core.Bool.{true, false}
+use mathlib.Core.List.{List, [], _∷_}
+use native.Mathlib.Omega.{arith}
+use lib.IntN.{ℤ}
+use Rattle.definitions.specs.Times.{none}
+use Rattle.definitions.specs.Ranges.{Lists, rangesOf}
+use Rattle.definitions.specs.Answers.{Answer, refused, accepted, _>>=_, Row, _if_, firstRow, refusal}
+use Rattle.definitions.specs.Trial.{rangesRows, listRows, writeRows, segmentRows, cornerRows}
+use Rattle.definitions.specs.Calls.{writeCall, segmentCall, cornersCall}
+use Rattle.trial_laws.specs.Rows.{Numbered, Numbered-append, refused-not-accepted}
+use Rattle.trial_laws.specs.CallLaws.{refused-is, bind-refused}
+use Rattle.trial_laws.specs.ListTrial.{countRows, ranges-numbered}
+use Rattle.trace_laws.specs.TraceLaws.{read-number}
+use Rattle.trace.specs.Promises.{writeInto}
+use Rattle.humoraki.specs.Promises.{ReadLent, readAnswer, AfterRead, WriteLent, AfterWrite, SegmentLent, segmentAnswer, AfterSegment, CornersLent, cornersAnswer, AfterCorners}
+
+abbrev pub Accepted : {A : Type 0} → Answer A → Type 0
+Accepted {A} answer = (a : A) × (answer ≡ accepted a)
+
+-- no refusal has the number 0
+abbrev Above : {A : Type 0} → Answer A → Type 0
+Above answer = (n : ℕ) → answer ≡ refused n → 0 < n
+
+zero-exactly : {A : Type 0} (answer : Answer A) → Above answer → {r : ℕ} → r ≡ refusal answer → (r ≡ 0) ↔ Accepted answer
+unfolding refusal
+zero-exactly (refused n) above e = (λ z. let h = above n refl in absurd (omega arith), λ a. refused-not-accepted (a .1))
+zero-exactly (accepted a) above e = (λ z. (a, refl), λ b. e)
+
+rows-above : (rows : List Row) → Numbered rows → Above (firstRow rows)
+unfolding firstRow
+rows-above [] h n e = refused-not-accepted (sym e)
+rows-above ((m if true) ∷ rows) h n e = let z = refused-is e in let above = h .0 in omega arith
+rows-above ((m if false) ∷ rows) h n e = rows-above rows (h .1) n e
+
+-- a call that tries its rows and then gives a result
+call-above : {A : Type 0} (rows : List Row) (a : A) → Numbered rows → Above (firstRow rows >>= λ ok. accepted a)
+call-above rows a h n e = rows-above rows h n (bind-refused (firstRow rows) (λ ok. a) n e)
+
+pub read-zero : {file : List ℕ} {old new : ReadLent} {r : ℕ} → AfterRead file old new r → (r ≡ 0) ↔ Accepted (readAnswer file old)
+read-zero {file} {old} h = zero-exactly (readAnswer file old) (λ n e. let m = read-number _ file n e .0 in omega arith) (h .number-is)
+
+pub write-zero : {address : ℕ} {level : ℤ} {ls : Lists} {old new : WriteLent} {r : ℕ} → AfterWrite address level ls old new r → (r ≡ 0) ↔ Accepted (writeInto (old .file) address level ls)
+unfolding writeCall writeRows listRows
+write-zero {address} {level} {ls} {old} h =
+    zero-exactly (writeInto (old .file) address level ls) (call-above _ _ (omega arith, (omega arith, (omega arith, (omega arith, (omega arith, ranges-numbered none (rangesOf ls))))))) (h .counted .number-is)
+
+pub segment-zero : {level : ℤ} {ls : Lists} {old new : SegmentLent} {r : ℕ} → AfterSegment level ls old new r → (r ≡ 0) ↔ Accepted (segmentAnswer level ls old)
+unfolding segmentCall segmentRows listRows
+segment-zero {level} {ls} {old} h = zero-exactly (segmentAnswer level ls old) (call-above _ _ (omega arith, (omega arith, (omega arith, (omega arith, ranges-numbered none (rangesOf ls)))))) (h .counted .number-is)
+
+pub corners-zero : {k : ℕ} {ls : Lists} {old new : CornersLent} {r : ℕ} → AfterCorners k ls old new r → (r ≡ 0) ↔ Accepted (cornersAnswer k ls old)
+unfolding cornersCall cornerRows listRows
+corners-zero {k} {ls} {old} h =
+    zero-exactly (cornersAnswer k ls old) (call-above _ _ (omega arith, (omega arith, (omega arith, Numbered-append (rangesRows none (rangesOf ls)) (countRows k ls) (ranges-numbered none (rangesOf ls)) (omega arith, tt))))) (h .counted .number-is)
