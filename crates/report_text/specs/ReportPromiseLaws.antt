@@ -5,6 +5,7 @@
 --     trace-read             what Read promises of a file that it accepted: the trace, its record and its lists
 --     file-refused           and of a file that it turned down
 --     told-is                the report of those lists is the report of the file
+--     report-inside          the report lies in the text
 --     zero-room              the slices that the report lends to Read are long enough
 --
 -- Assumes nothing.
@@ -135,3 +136,14 @@ zero-room =
     let time = length-replicate {A = ℕ} 4096 0 in
     let value = length-replicate {A = ℤ} 4096 (pos 0) in
     λ i. tooShort readRoom (time i ∷ value i ∷ value i ∷ [])
+
+-- ---- what a caller may rely on
+
+-- the report lies in the text
+pub report-inside : {file text₀ text : List ℕ} {n : ℕ} → ReportPromise file text₀ text (Accepted n) → n ≤ length text
+unfolding reportMeaning filled
+report-inside {file} {text₀} {text} {n} promise =
+    let call = reportCall (length text₀ ∷ []) file in
+    let (bytes, e, f) = bind-accepted call (λ bytes. accepted (length bytes)) n (sym (promise .answer-is)) in
+    let is = promise .text-is ∙ ap (λ a. filled a (λ bytes. bytes) text₀) e in
+    omega (arith, accepted-is f, ap length is, length-append bytes (drop (length bytes) text₀))
