@@ -3,7 +3,7 @@
 --     number-told, value-told, counts-told                    what tells of a result gives the same number, lent number and lent count as the result
 --     number-accepted, given-accepted, counts-accepted        what an accepted answer gives
 --     number-refused, given-refused, counts-refused           what a refused one gives
---     after-read, after-write, after-segment, after-corners   the promise of each call, from that of the call below and the numbers that its answer is given as
+--     after-read, after-write, after-segment, after-corners, after-report   the promise of each call, from that of the call below and the numbers that its answer is given as
 --
 -- Assumes nothing.
 use Prim.Native.Nat.{ℕ}
@@ -21,7 +21,9 @@ use Rattle.drift.specs.declared.SegmentAnswer.{SegmentAnswer}
 use Rattle.drift.specs.declared.CornersAnswer.{CornersAnswer}
 use Rattle.drift.specs.SegmentPromise.{segmentMeaning, SegmentPromise}
 use Rattle.drift.specs.CornersPromise.{countOf, cornersIn, cornersMeaning, CornersPromise}
-use Rattle.humoraki.specs.Promises.{given, Counts, ReadLent, readAnswer, AfterRead, WriteLent, AfterWrite, SegmentLent, segmentAnswer, AfterSegment, CornersLent, cornersAnswer, cornerNumber, AfterCorners}
+use Rattle.report_text.specs.declared.ReportAnswer.{ReportAnswer}
+use Rattle.report_text.specs.ReportPromise.{reportMeaning, ReportPromise}
+use Rattle.humoraki.specs.Promises.{given, Counts, ReadLent, readAnswer, AfterRead, WriteLent, AfterWrite, SegmentLent, segmentAnswer, AfterSegment, CornersLent, cornersAnswer, cornerNumber, AfterCorners, ReportLent, reportAnswer, AfterReport}
 
 refusal-tells : {A B : Type 0} (tells : B → A) (below : Answer B) → refusal (below >>= λ b. accepted (tells b)) ≡ refusal below
 unfolding _>>=_ refusal
@@ -110,3 +112,8 @@ after-corners k ls old new h counts =
       qs-are = h .qs-are;
       ds-are = h .ds-are;
     }
+
+pub after-report : (file : List ℕ) (old new : ReportLent) {answer : ReportAnswer} {r : ℕ} → ReportPromise file (old .text) (new .text) answer
+    → Counts (reportMeaning answer) (λ n. n) (old .count) (new .count) r → AfterReport file old new r
+after-report file old new h counts =
+    record { counted = counts-told length (reportAnswer file old) (h .answer-is) (λ n. n) length (λ bytes. refl) (old .count) counts; text-is = h .text-is }

@@ -3,8 +3,8 @@
 --     given                                                what a lent number holds after a call
 --     Counts                                               the number and the lent count after a call with a count
 --     cornerNumber                                         what the answer of Corners tells of a fit, as a count
---     ReadLent, WriteLent, SegmentLent, CornersLent        what a caller lends to be filled or set
---     AfterRead, AfterWrite, AfterSegment, AfterCorners    the number, and what holds of all that after the call
+--     ReadLent, WriteLent, SegmentLent, CornersLent, ReportLent   what a caller lends to be filled or set
+--     AfterRead, AfterWrite, AfterSegment, AfterCorners, AfterReport   the number, and what holds of all that after the call
 --
 -- The number is 0 where the call is accepted. Where it is refused, everything that was lent holds its old contents: so say `given` and `filled`.
 --
@@ -13,7 +13,7 @@
 -- Assumes nothing.
 use Prim.Native.Nat.{ℕ}
 use mathlib.Core.Path.{_≡_}
-use mathlib.Core.List.{List, map}
+use mathlib.Core.List.{List, [], _∷_, map}
 use lib.IntN.{ℤ}
 use lib.ListN.{length}
 use Rattle.definitions.specs.Ranges.{Lists}
@@ -21,6 +21,7 @@ use Rattle.definitions.specs.Results.{Segment, numbersOf}
 use Rattle.definitions.specs.Answers.{Answer, refused, accepted, refusal, filled}
 use Rattle.definitions.specs.TraceFile.{Trace}
 use Rattle.definitions.specs.Calls.{Fit, segmentCall, cornersCall}
+use Rattle.definitions.specs.Report.{reportCall}
 use Rattle.trace.specs.Promises.{readInto, writeInto}
 use Rattle.drift.specs.Columns.{Columns, EachColumn, lengths}
 use Rattle.drift.specs.CornersPromise.{CornerCount, unbounded, corner-count, cornersIn, threeLengths}
@@ -100,3 +101,16 @@ pub record AfterCorners (k : ℕ) (ls : Lists) (old new : CornersLent) (r : ℕ)
   pub ps-are : new .ps ≡ filled (cornersAnswer k ls old) (λ fit. map (λ l. l .p) (cornersIn fit)) (old .ps)
   pub qs-are : new .qs ≡ filled (cornersAnswer k ls old) (λ fit. map (λ l. l .q) (cornersIn fit)) (old .qs)
   pub ds-are : new .ds ≡ filled (cornersAnswer k ls old) (λ fit. map (λ l. l .d) (cornersIn fit)) (old .ds)
+
+-- ---- the report
+
+pub record ReportLent : Type 0 where
+  pub text : List ℕ
+  pub count : ℕ
+
+abbrev pub reportAnswer : List ℕ → ReportLent → Answer (List ℕ)
+reportAnswer file old = reportCall (length (old .text) ∷ []) file
+
+pub record AfterReport (file : List ℕ) (old new : ReportLent) (r : ℕ) : Type 0 where
+  pub counted : Counts (reportAnswer file old) length (old .count) (new .count) r
+  pub text-is : new .text ≡ filled (reportAnswer file old) (λ bytes. bytes) (old .text)

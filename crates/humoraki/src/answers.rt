@@ -2,9 +2,11 @@
 ghost use Rattle.trace.specs.Promises.{writeMeaning};
 ghost use Rattle.drift.specs.SegmentPromise.{segmentMeaning};
 ghost use Rattle.drift.specs.CornersPromise.{cornersMeaning};
+ghost use Rattle.report_text.specs.ReportPromise.{reportMeaning};
 ghost use Rattle.humoraki.specs.Promises.{Counts, cornerNumber};
 use drift::CornersAnswer;
 use drift::SegmentAnswer;
+use report_text::ReportAnswer;
 use trace::WriteAnswer;
 
 pub struct Counted {
@@ -56,6 +58,21 @@ pub fn of_corners(answer: CornersAnswer, old: usize) -> Counted
             count: 0,
         },
         CornersAnswer::Refused(number) => Counted {
+            number: number,
+            count: old,
+        },
+    }
+}
+
+pub fn of_report(answer: ReportAnswer, old: usize) -> Counted
+    ensures { λ r. ⌜ Counts (reportMeaning answer) (λ n. n) old (r .count) (r .number) ⌝ }
+{
+    match answer {
+        ReportAnswer::Accepted(bytes) => Counted {
+            number: 0,
+            count: bytes,
+        },
+        ReportAnswer::Refused(number) => Counted {
             number: number,
             count: old,
         },

@@ -3,7 +3,7 @@
 mod answers; // answers.rt: the answers of the calls with a count, as numbers
 
 ghost use Rattle.drift.specs.Columns.{columns};
-ghost use Rattle.humoraki.specs.Promises.{AfterRead, AfterWrite, AfterSegment, AfterCorners};
+ghost use Rattle.humoraki.specs.Promises.{AfterRead, AfterWrite, AfterSegment, AfterCorners, AfterReport};
 use trace::ReadAnswer;
 
 // The trace of a file, with its address, level and number of ranges.
@@ -111,6 +111,17 @@ pub extern "C" fn humoraki_corners(
 {
     let answer = drift::corners(k, times, lows, highs, ps, qs, ds);
     let told = answers::of_corners(answer, *count);
+    *count = told.count;
+    told.number
+}
+
+// The report of a file, and the count of its bytes.
+#[no_mangle]
+pub extern "C" fn humoraki_report(file: &[u8], text: &mut [u8], count: &mut usize) -> u8
+    ensures { λ r. ⌜ AfterReport (now (file .entry)) (record { text = now (text .entry); count = now (count .entry) }) (record { text = now (text .exit); count = now (count .exit) }) r ⌝ }
+{
+    let answer = report_text::report(file, text);
+    let told = answers::of_report(answer, *count);
     *count = told.count;
     told.number
 }

@@ -1,0 +1,24 @@
+-- `humoraki::answers::of_report` meets its contract. Assumes nothing.
+use mathlib.Core.Path.{ap}
+use borrow.Author.Needs.{needs}
+use Rattle.report_text.specs.ReportPromise.{reportMeaning}
+use Rattle.humoraki.specs.PromiseLaws.{counts-accepted, counts-refused}
+use Rattle.humoraki.proofs.answers.of_report.Statement.{statement}
+use Rattle.humoraki.proofs.answers.of_report.Tie as tie
+
+enum-known-answer : tie.Need-enum-known-answer
+enum-known-answer c = search needs
+
+enum-known-answer-2 : tie.Need-enum-known-answer-2
+enum-known-answer-2 c = search needs
+
+returns : tie.Need-returns
+unfolding reportMeaning
+returns c = counts-accepted (ap reportMeaning (c .before .answer .given .1)) (λ n. n) (c .before .before .before .args .old)
+
+returns-2 : tie.Need-returns-2
+unfolding reportMeaning
+returns-2 c = counts-refused (ap reportMeaning (c .before .answer2 .given .1)) (λ n. n) (c .before .before .before .args .old)
+
+pub of-report-spec : {M : Type 1} → statement M
+of-report-spec = tie.close (tie.spec enum-known-answer enum-known-answer-2 returns returns-2)
