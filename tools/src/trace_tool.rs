@@ -1,0 +1,97 @@
+//! Makes a trace file from lines of text, and lines from a trace file.
+//!
+//!     trace-tool make < LINES > FILE
+//!     trace-tool show < FILE > LINES
+//!
+//! The file itself is written and read by the proved library.
+
+use std::ffi::OsStr;
+use std::io::{self, Read, Write};
+use std::process::ExitCode;
+
+#[path = "../../include/humoraki.rs"]
+mod humoraki;
+mod lines;
+
+use humoraki::Trace;
+use lines::Lines;
+
+const USAGE: &str = "usage: trace-tool make < LINES > FILE
+       trace-tool show < FILE > LINES
+LINES: first 'detector ADDRESS level LEVEL', then 'time low high' for each range;
+       blank lines do not count, nor does what follows a '#'";
+
+/// The report program reads this much of a file; later bytes cannot matter.
+const MOST_BYTES: u64 = 65_536;
+
+fn main() -> ExitCode {
+    let mut words = std::env::args_os().skip(1);
+    let command = words.next().filter(|_| words.next().is_none());
+    let made = match command.as_deref().and_then(OsStr::to_str) {
+        Some("make") => make(),
+        Some("show") => show(),
+        _ => {
+            eprintln!("{USAGE}");
+            return ExitCode::from(2);
+        }
+    };
+    match made.and_then(|bytes| send(&bytes)) {
+        Ok(()) => ExitCode::SUCCESS,
+        Err(message) => {
+            eprintln!("trace-tool: {message}");
+            ExitCode::FAILURE
+        }
+    }
+}
+
+/// The trace file of the lines on standard input.
+fn make() -> Result<Vec<u8>, String> {
+    let mut text = String::new();
+    io::stdin()
+        .read_to_string(&mut text)
+        .map_err(|error| format!("standard input does not read as text: {error}"))?;
+    let trace = trace_of(&lines::parse(&text)?);
+    humoraki::write(&trace).map_err(refused)
+}
+
+/// The lines of the trace file on standard input.
+fn show() -> Result<Vec<u8>, String> {
+    let mut file = Vec::new();
+    io::stdin()
+        .take(MOST_BYTES)
+        .read_to_end(&mut file)
+        .map_err(|error| format!("standard input: {error}"))?;
+    let trace = humoraki::read(&file).map_err(refused)?;
+    Ok(text_of(&trace).into_bytes())
+}
+
+fn send(bytes: &[u8]) -> Result<(), String> {
+    let mut output = io::stdout();
+    output
+        .write_all(bytes)
+        .and_then(|()| output.flush())
+        .map_err(|error| format!("standard output: {error}"))
+}
+
+fn refused(number: u8) -> String {
+    format!("refused {number}: {}", humoraki::meaning(number))
+}
+
+fn trace_of(lines: &Lines) -> Trace {
+    Trace {
+        address: lines.address,
+        level: lines.level,
+        times: lines.ranges.iter().map(|range| range.time).collect(),
+        lows: lines.ranges.iter().map(|range| range.low).collect(),
+        highs: lines.ranges.iter().map(|range| range.high).collect(),
+    }
+}
+
+/// The lines of a trace, as `lines::parse` reads them.
+fn text_of(trace: &Trace) -> String {
+    let mut text = format!("detector {} level {}\n", trace.address, trace.level);
+    for ((time, low), high) in trace.times.iter().zip(&trace.lows).zip(&trace.highs) {
+        text += &format!("{time} {low} {high}\n");
+    }
+    text
+}
