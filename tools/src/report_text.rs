@@ -1,0 +1,76 @@
+//! Reads a report's text: what the report program prints of a trace.
+
+/// A line: its value at t is (p * t + q) / d.
+#[derive(Clone, Copy)]
+pub struct Line {
+    pub p: f64,
+    pub q: f64,
+    pub d: f64,
+}
+
+/// The two lines of a segment and its two times; `None` is no such time.
+#[derive(Clone, Copy)]
+pub struct Outlook {
+    pub slow: Line,
+    pub fast: Line,
+    pub some: Option<u32>,
+    pub all: Option<u32>,
+}
+
+/// A segment: its place from 1, its first and last time, its number of ranges, and its outlook
+/// unless it is open.
+pub struct Segment {
+    pub place: usize,
+    pub times: (u32, u32),
+    pub ranges: usize,
+    pub outlook: Option<Outlook>,
+}
+
+/// The segments of a report, or the first line that is none of a trace's report.
+pub fn parse(text: &str) -> Result<Vec<Segment>, String> {
+    let mut lines = text.lines();
+    let first = lines.next().unwrap_or_default();
+    if !first.starts_with("detector ") {
+        return Err(format!("expected the report of a trace, found '{first}'"));
+    }
+    lines
+        .map(|line| segment(line).ok_or_else(|| format!("expected a segment, found '{line}'")))
+        .collect()
+}
+
+fn segment(line: &str) -> Option<Segment> {
+    let words: Vec<&str> = line.split(' ').collect();
+    let ["segment", place, "from", first, "to", last, "ranges", ranges, rest @ ..] = &words[..]
+    else {
+        return None;
+    };
+    Some(Segment {
+        place: place.parse().ok()?,
+        times: (first.parse().ok()?, last.parse().ok()?),
+        ranges: ranges.parse().ok()?,
+        outlook: match rest {
+            ["open"] => None,
+            _ => Some(outlook(rest)?),
+        },
+    })
+}
+
+#[rustfmt::skip]
+fn outlook(words: &[&str]) -> Option<Outlook> {
+    let ["slow", p1, q1, d1, "fast", p2, q2, d2, "some", some, "all", all] = words else {
+        return None;
+    };
+    Some(Outlook {
+        slow: Line { p: p1.parse().ok()?, q: q1.parse().ok()?, d: d1.parse().ok()? },
+        fast: Line { p: p2.parse().ok()?, q: q2.parse().ok()?, d: d2.parse().ok()? },
+        some: time(some)?,
+        all: time(all)?,
+    })
+}
+
+fn time(word: &str) -> Option<Option<u32>> {
+    match word {
+        "none" => Some(None),
+        _ => word.parse().ok().map(Some),
+    }
+}
