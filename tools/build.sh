@@ -28,7 +28,7 @@ stale() { # FILE SOURCE...
 # Has rt make a file of target/. rt leaves a file alone whose own crates did not change, so a stamp tells when it last
 # looked: at the start of that look, so that an edit made meanwhile is seen.
 prove() { # FILE RT-WORD...
-  local file=$1 stamp=$target/looked/$(basename "$1")
+  local file=$1 stamp=$target/looked/${1##*/}
   shift
   if [ -e "$file" ] && ! stale "$stamp" "$root/crates" "$root/crates.txt"; then return; fi
   need rt "the Rattle toolchain"
