@@ -1,0 +1,56 @@
+//! The answer that document 01 asks of each call, on slices that are long enough: what is to be filled, or the number
+//! of the first refusal.
+
+use crate::file;
+use crate::line::Line;
+use crate::report;
+use crate::segments::{segments, stages, Fitter, Segment};
+use crate::trace::{Lists, Range, Trace};
+use crate::trial;
+use std::borrow::Borrow;
+
+pub fn read(file: &[u8]) -> Result<Trace, u8> {
+    file::read(file)
+}
+
+pub fn write(address: u16, level: i32, lists: &Lists) -> Result<Vec<u8>, u8> {
+    trial::lengths(lists)?;
+    trial::address(address)?;
+    trial::value(level)?;
+    let ranges = trial::ranges(lists)?;
+    Ok(file::bytes(&Trace { address, level, ranges }))
+}
+
+pub fn segment(level: i32, lists: &Lists, fitter: Fitter) -> Result<Vec<Segment>, u8> {
+    trial::lengths(lists)?;
+    trial::value(level)?;
+    let ranges = trial::ranges(lists)?;
+    Ok(segments(&ranges, level, fitter))
+}
+
+pub fn corners(k: usize, lists: &Lists, fitter: Fitter) -> Result<Vec<Line>, u8> {
+    let ranges = prefix(k, lists)?;
+    let last = stages(&ranges, fitter).last();
+    Ok(last.map_or(Vec::new(), |stage| stage.corners))
+}
+
+/// The first k ranges, or the refusal of Corners.
+pub fn prefix(k: usize, lists: &Lists) -> Result<Vec<Range>, u8> {
+    trial::lengths(lists)?;
+    let mut ranges = trial::ranges(lists)?;
+    trial::prefix(k, ranges.len())?;
+    ranges.truncate(k);
+    Ok(ranges)
+}
+
+pub fn report(file: &[u8], fitter: Fitter) -> String {
+    match file::read(file) {
+        Err(number) => report::refused(number),
+        Ok(trace) => report::accepted(&trace, &segments(&trace.ranges, trace.level, fitter)),
+    }
+}
+
+/// An answer as the calls take it.
+pub fn borrowed<T: Borrow<B>, B: ?Sized>(answer: &Result<T, u8>) -> Result<&B, u8> {
+    answer.as_ref().map(T::borrow).map_err(|number| *number)
+}

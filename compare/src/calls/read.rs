@@ -1,0 +1,93 @@
+//! Read, compared.
+
+use super::{number, unless_short, Returned, Told};
+use crate::difference::Outcome;
+use crate::file::visible;
+use crate::lent::Lent;
+use crate::library::{self, READ_ROOM};
+use crate::random::Random;
+use crate::room::Room;
+use crate::tally::{Call, Tally};
+use crate::trace::{Lists, Trace};
+
+/// How many slices Read fills.
+pub const PLACES: usize = 3;
+
+pub struct ReadCall {
+    file: Lent<u8>,
+    times: Lent<u32>,
+    lows: Lent<i32>,
+    highs: Lent<i32>,
+    address: Lent<u16>,
+    level: Lent<i32>,
+    ranges: Lent<usize>,
+}
+
+impl ReadCall {
+    pub fn new() -> ReadCall {
+        ReadCall {
+            file: Lent::new("file"),
+            times: Lent::new("times"),
+            lows: Lent::new("lows"),
+            highs: Lent::new("highs"),
+            address: Lent::new("address"),
+            level: Lent::new("level"),
+            ranges: Lent::new("ranges"),
+        }
+    }
+
+    /// `expected` is the answer on slices that are long enough.
+    pub fn compare(
+        &mut self,
+        file: &[u8],
+        expected: Result<&Trace, u8>,
+        room: &Room,
+        random: &mut Random,
+        tally: &mut Tally,
+    ) -> Outcome {
+        let short = self.lend(file, room, random);
+        let expected = unless_short(short, expected);
+        let given = library::read(
+            self.file.entries(),
+            self.times.entries_mut(),
+            self.lows.entries_mut(),
+            self.highs.entries_mut(),
+            self.address.entry_mut(),
+            self.level.entry_mut(),
+            self.ranges.entry_mut(),
+        );
+        if let Ok(trace) = expected {
+            self.expect(trace);
+        }
+        let returned = Returned {
+            call: Call::Read,
+            expected: number(&expected),
+            given,
+            lent: vec![&self.file, &self.times, &self.lows, &self.highs, &self.address, &self.level, &self.ranges],
+        };
+        returned.judge(tally, || Told::on_file(format!("Read, {room}"), file))
+    }
+
+    /// Whether a slice is too short.
+    fn lend(&mut self, file: &[u8], room: &Room, random: &mut Random) -> bool {
+        let fresh = visible(file).ranges.len().min(READ_ROOM);
+        self.file.lend_filled(file, random);
+        self.times.lend(room.length(0, READ_ROOM, random), fresh, random);
+        self.lows.lend(room.length(1, READ_ROOM, random), fresh, random);
+        self.highs.lend(room.length(2, READ_ROOM, random), fresh, random);
+        self.address.lend(1, 1, random);
+        self.level.lend(1, 1, random);
+        self.ranges.lend(1, 1, random);
+        [self.times.len(), self.lows.len(), self.highs.len()].iter().any(|&len| len < READ_ROOM)
+    }
+
+    fn expect(&mut self, trace: &Trace) {
+        let lists = Lists::of(&trace.ranges);
+        self.times.expect(&lists.times);
+        self.lows.expect(&lists.lows);
+        self.highs.expect(&lists.highs);
+        self.address.expect(&[trace.address]);
+        self.level.expect(&[trace.level]);
+        self.ranges.expect(&[trace.ranges.len()]);
+    }
+}

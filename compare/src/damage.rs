@@ -1,0 +1,159 @@
+//! Damage to a trace's values and to its file's bytes.
+
+// Damages of one kind have one type, though some need no more than a slice.
+#![allow(clippy::ptr_arg)]
+
+use crate::file::{bytes, field_start};
+use crate::random::Random;
+use crate::trace::{Trace, LARGEST_VALUE, LEAST_VALUE};
+
+type ValueDamage = fn(&mut Trace, &mut Random);
+type ByteDamage = fn(&mut Vec<u8>, &mut Random);
+
+const OF_VALUES: [ValueDamage; 6] =
+    [zero_address, level_outside, low_outside, high_outside, low_above_high, time_not_rising];
+const OF_BYTES: [ByteDamage; 10] = [
+    other_tag,
+    other_length,
+    field_removed,
+    field_doubled,
+    byte_changed,
+    bit_turned,
+    byte_added,
+    byte_removed,
+    cut_off,
+    bytes_behind,
+];
+
+/// The trace's file with one to three damages.
+pub fn damaged(trace: &Trace, random: &mut Random) -> Vec<u8> {
+    let mut trace = trace.clone();
+    let damages = 1 + random.below(3);
+    let of_values = random.below(damages + 1);
+    for _ in 0..of_values {
+        random.pick(&OF_VALUES)(&mut trace, random);
+    }
+    let mut file = bytes(&trace);
+    for _ in of_values..damages {
+        random.pick(&OF_BYTES)(&mut file, random);
+    }
+    file
+}
+
+/// A number outside the span of lows, highs and levels.
+pub fn outside(random: &mut Random) -> i32 {
+    let far = random.between(LARGEST_VALUE as i64 + 1, i32::MAX as i64) as i32;
+    random.pick(&[LARGEST_VALUE + 1, LEAST_VALUE - 1, i32::MAX, i32::MIN, far, -far])
+}
+
+fn zero_address(trace: &mut Trace, _: &mut Random) {
+    trace.address = 0;
+}
+
+fn level_outside(trace: &mut Trace, random: &mut Random) {
+    trace.level = outside(random);
+}
+
+fn low_outside(trace: &mut Trace, random: &mut Random) {
+    if let Some(place) = some_place(trace.ranges.len(), random) {
+        trace.ranges[place].low = outside(random);
+    }
+}
+
+fn high_outside(trace: &mut Trace, random: &mut Random) {
+    if let Some(place) = some_place(trace.ranges.len(), random) {
+        trace.ranges[place].high = outside(random);
+    }
+}
+
+fn low_above_high(trace: &mut Trace, random: &mut Random) {
+    if let Some(place) = some_place(trace.ranges.len(), random) {
+        let range = &mut trace.ranges[place];
+        range.low = random.pick(&[range.high.saturating_add(1), LARGEST_VALUE]);
+    }
+}
+
+fn time_not_rising(trace: &mut Trace, random: &mut Random) {
+    if let Some(place) = some_place(trace.ranges.len().saturating_sub(1), random) {
+        let before = trace.ranges[place].time;
+        trace.ranges[place + 1].time = random.pick(&[before, before.saturating_sub(1), 0]);
+    }
+}
+
+fn other_tag(file: &mut Vec<u8>, random: &mut Random) {
+    if let Some(start) = some_field(file, random) {
+        file[start] = random.pick(&[0, 1, 2, 3, 4, 255]);
+    }
+}
+
+fn other_length(file: &mut Vec<u8>, random: &mut Random) {
+    if let Some(start) = some_field(file, random).filter(|start| start + 3 <= file.len()) {
+        let length: u16 = random.pick(&[0, 1, 3, 4, 5, 11, 12, 13, 256, 257, 3072, 65_535]);
+        file[start + 1..start + 3].copy_from_slice(&length.to_be_bytes());
+    }
+}
+
+fn field_removed(file: &mut Vec<u8>, random: &mut Random) {
+    if let Some(start) = some_field(file, random) {
+        let end = file.len().min(field_start(field_at(start) + 1));
+        file.drain(start..end);
+    }
+}
+
+fn field_doubled(file: &mut Vec<u8>, random: &mut Random) {
+    if let Some(start) = some_field(file, random) {
+        let end = file.len().min(field_start(field_at(start) + 1));
+        let field = file[start..end].to_vec();
+        file.splice(end..end, field);
+    }
+}
+
+fn byte_changed(file: &mut Vec<u8>, random: &mut Random) {
+    if let Some(place) = some_place(file.len(), random) {
+        file[place] = random.next() as u8;
+    }
+}
+
+fn bit_turned(file: &mut Vec<u8>, random: &mut Random) {
+    if let Some(place) = some_place(file.len(), random) {
+        file[place] ^= 1 << random.below(8);
+    }
+}
+
+fn byte_added(file: &mut Vec<u8>, random: &mut Random) {
+    let place = random.below(file.len() + 1);
+    file.insert(place, random.next() as u8);
+}
+
+fn byte_removed(file: &mut Vec<u8>, random: &mut Random) {
+    if let Some(place) = some_place(file.len(), random) {
+        file.remove(place);
+    }
+}
+
+fn cut_off(file: &mut Vec<u8>, random: &mut Random) {
+    file.truncate(random.below(file.len() + 1));
+}
+
+fn bytes_behind(file: &mut Vec<u8>, random: &mut Random) {
+    let behind = 1 + random.below(20);
+    let header = [3, 0, 12];
+    for place in 0..behind {
+        let junk = random.next() as u8;
+        file.push(header.get(place).copied().filter(|_| random.one_in(2)).unwrap_or(junk));
+    }
+}
+
+fn some_place(count: usize, random: &mut Random) -> Option<usize> {
+    (count > 0).then(|| random.below(count))
+}
+
+/// Where one of the fields that are due begins.
+fn some_field(file: &[u8], random: &mut Random) -> Option<usize> {
+    let fields = (0..).take_while(|&field| field_start(field) < file.len()).count();
+    some_place(fields, random).map(field_start)
+}
+
+fn field_at(start: usize) -> usize {
+    (0..).take_while(|&field| field_start(field) < start).count()
+}

@@ -1,0 +1,121 @@
+//! Memory lent to the library, watched whole.
+//!
+//! A lent slice lies inside a longer list, whose entries on both sides the library was not lent. A second list says
+//! what the first must hold, so that after each call every entry is compared: filled, left as it was, or outside.
+
+use crate::random::Random;
+use std::fmt::Display;
+
+/// How many entries there are at least on each side of a lent slice.
+const MARGIN: usize = 16;
+
+/// How many entries a difference shows at most before it, and of those to be filled after it.
+const SHOWN: usize = 10;
+
+pub struct Lent<T> {
+    name: &'static str,
+    held: Vec<T>,
+    known: Vec<T>,
+    from: usize,
+    to: usize,
+    filled: usize,
+}
+
+/// A number of any value, from any bits.
+pub trait Entry: Copy + PartialEq + Display {
+    fn from_bits(bits: u64) -> Self;
+}
+
+macro_rules! entry {
+    ($($number:ty)*) => {
+        $(impl Entry for $number {
+            fn from_bits(bits: u64) -> $number {
+                bits as $number
+            }
+        })*
+    };
+}
+
+entry!(u8 u16 u32 i32 i64 u64 usize);
+
+impl<T: Entry> Lent<T> {
+    pub fn new(name: &'static str) -> Lent<T> {
+        Lent { name, held: Vec::new(), known: Vec::new(), from: 0, to: 0, filled: 0 }
+    }
+
+    /// Lends that many entries, somewhere in the list, with whatever they hold, but for fresh junk in the first
+    /// `fresh` of them and a few behind, so that an entry that was to be filled does not have its value by chance.
+    pub fn lend(&mut self, length: usize, fresh: usize, random: &mut Random) {
+        self.from = MARGIN + random.below(MARGIN);
+        self.to = self.from + length;
+        self.filled = 0;
+        while self.held.len() < self.to + MARGIN {
+            self.held.push(T::from_bits(random.next()));
+            self.known.push(self.held[self.held.len() - 1]);
+        }
+        let junk = self.held.len().min(self.from + fresh + MARGIN);
+        for place in self.from..junk {
+            self.held[place] = T::from_bits(random.next());
+            self.known[place] = self.held[place];
+        }
+    }
+
+    /// Lends entries that the library is to read.
+    pub fn lend_filled(&mut self, entries: &[T], random: &mut Random) {
+        self.lend(entries.len(), 0, random);
+        self.held[self.from..self.to].copy_from_slice(entries);
+        self.known[self.from..self.to].copy_from_slice(entries);
+    }
+
+    pub fn len(&self) -> usize {
+        self.to - self.from
+    }
+
+    pub fn entries(&self) -> &[T] {
+        &self.held[self.from..self.to]
+    }
+
+    pub fn entries_mut(&mut self) -> &mut [T] {
+        &mut self.held[self.from..self.to]
+    }
+
+    /// The only entry of a slice of one, for a parameter that is set.
+    pub fn entry_mut(&mut self) -> &mut T {
+        &mut self.held[self.from]
+    }
+
+    /// What the slice must hold from its start on; all else must be as it was.
+    pub fn expect(&mut self, entries: &[T]) {
+        self.filled = entries.len();
+        self.known[self.from..self.from + entries.len()].copy_from_slice(entries);
+    }
+}
+
+/// What every lent slice can be asked, whatever its entries.
+pub trait Watched {
+    /// Nothing if all is as it must be; else where it is not, in words.
+    fn difference(&self) -> Option<String>;
+}
+
+impl<T: Entry> Watched for Lent<T> {
+    fn difference(&self) -> Option<String> {
+        if self.held == self.known {
+            return None;
+        }
+        let place = (0..self.held.len()).find(|&place| self.held[place] != self.known[place])?;
+        let begin = place.saturating_sub(SHOWN).max(self.from).min(place);
+        let end = (self.from + self.filled).min(place + SHOWN).max(place + 1);
+        let (expected, given) = (listed(&self.known[begin..end]), listed(&self.held[begin..end]));
+        let (name, length) = (self.name, self.len());
+        let [place, begin] = [place, begin].map(|place| place as i64 - self.from as i64);
+        Some(format!(
+            "{name}, of length {length}, differs at entry {place}; from entry {begin} on\n    \
+             expected {expected}\n    given    {given}\n"
+        ))
+    }
+}
+
+fn listed<T: Display>(entries: &[T]) -> String {
+    let words: Vec<String> = entries.iter().map(T::to_string).collect();
+    words.join(" ")
+}

@@ -1,0 +1,103 @@
+//! What is expected of a small trace, held to the words of the demands and of document 01 once more: corners fit and
+//! are between no two others, no time before the two times will do, and no split does better than the segments.
+
+use crate::difference::{Difference, Outcome};
+use crate::file;
+use crate::line::{turn, Line};
+use crate::outlook::Outlook;
+use crate::segments::{stages, Segment, Stage, BY_CLIPPING, BY_TRYING};
+use crate::splits::{closed_by_three, no_split_is_better};
+use crate::trace::{Lists, Range, Trace};
+
+/// How many times from a segment's last are tried one by one.
+const TRIED: u32 = 60;
+
+/// The stages are those of the trace by trying all lines, and the segments come from them.
+pub fn check(trace: &Trace, stages: &[Stage], segments: &[Segment]) -> Outcome {
+    match fault(&trace.ranges, trace.level, stages, segments) {
+        None => Ok(()),
+        Some(fault) => Err(difference(trace, format!("{fault}\n{stages:?}\n{segments:?}"))),
+    }
+}
+
+/// The two ways of finding corners agree after every range.
+pub fn check_fitters(ranges: &[Range]) -> Outcome {
+    let by_trying = stages(ranges, BY_TRYING);
+    let by_clipping = stages(ranges, BY_CLIPPING);
+    match by_trying.zip(by_clipping).find(|(tried, clipped)| tried != clipped) {
+        None => Ok(()),
+        Some((tried, clipped)) => {
+            let trace = Trace { address: 1, level: 0, ranges: ranges.to_vec() };
+            Err(difference(&trace, format!("by trying {tried:?}\nby clipping {clipped:?}")))
+        }
+    }
+}
+
+fn difference(trace: &Trace, given: String) -> Box<Difference> {
+    Box::new(Difference {
+        call: format!("the brute force itself, level {}", trace.level),
+        ranges: Lists::of(&trace.ranges).in_words(),
+        expected: "agreement with the words of the paper".to_string(),
+        given,
+        file: file::bytes(trace),
+    })
+}
+
+/// Nothing, or what is wrong.
+fn fault(ranges: &[Range], level: i32, stages: &[Stage], segments: &[Segment]) -> Option<&'static str> {
+    for stage in stages {
+        if !corners_are_sound(&ranges[stage.begin..stage.end], &stage.corners) {
+            return Some("a corner does not fit, or is between two others");
+        }
+    }
+    let mut ends = Vec::new();
+    for segment in segments {
+        let begin = ends.last().copied().unwrap_or(0);
+        let end = begin + segment.count;
+        if !times_are_least(segment, &stages[end - 1].corners, level) {
+            return Some("one of the two times is not the least");
+        }
+        if end < ranges.len() && !closed_by_three(&ranges[begin..end], &ranges[end]) {
+            return Some("a segment is closed without two ranges that leave no line");
+        }
+        ends.push(end);
+    }
+    if !no_split_is_better(ranges, &ends) {
+        return Some("the segments are no split, or a split does better");
+    }
+    None
+}
+
+/// Each corner fits, and each three in a row turn to the right: none is a weighted mean of others.
+fn corners_are_sound(run: &[Range], corners: &[Line]) -> bool {
+    let fit = corners.iter().all(|line| run.iter().all(|range| line.fits(range)));
+    let count = corners.len();
+    let corner = |place: usize| &corners[place % count];
+    let right = |place| turn(corner(place), corner(place + 1), corner(place + 2)) < 0;
+    fit && (count < 3 || (0..count).all(right)) && (count == 0) == (run.len() == 1)
+}
+
+/// Both times are tried one by one for a while, and wherever a corner crosses the level.
+fn times_are_least(segment: &Segment, corners: &[Line], level: i32) -> bool {
+    let Outlook::Lines { some, all, .. } = segment.outlook else {
+        return segment.count == 1;
+    };
+    let reaches = |line: &Line, time: u32| line.above(level as i128, time as i128) >= 0;
+    let some_does = |time: u32| corners.iter().any(|line| reaches(line, time));
+    let all_do = |time: u32| corners.iter().all(|line| reaches(line, time));
+    let mut tried: Vec<u32> = (segment.last..=segment.last.saturating_add(TRIED)).collect();
+    let crossings = corners.iter().flat_map(|line| crossings(line, level));
+    tried.extend(crossings.filter(|&time| time >= segment.last));
+    tried.sort();
+    let first = |holds: &dyn Fn(u32) -> bool| tried.iter().copied().find(|&time| holds(time));
+    first(&some_does) == some && first(&all_do) == all
+}
+
+/// The times next to the one at which a line is at the level, on both sides.
+fn crossings(line: &Line, level: i32) -> Vec<u32> {
+    if line.p == 0 {
+        return Vec::new();
+    }
+    let time = (line.d * level as i128 - line.q) / line.p;
+    (time - 1..=time + 1).filter_map(|time| u32::try_from(time).ok()).collect()
+}

@@ -1,0 +1,114 @@
+//! Every set of faults in one field, so that the order of the refusals is tried, with more damage behind the field.
+
+use crate::damage::outside;
+use crate::desk::Desk;
+use crate::difference::Outcome;
+use crate::file::{bytes, field_start};
+use crate::random::Random;
+use crate::segments::{Fitter, BY_CLIPPING, BY_TRYING};
+use crate::trace::{Range, Trace, MOST_RANGES};
+use crate::traces::long::full;
+use crate::traces::small::small_trace;
+
+#[derive(Clone, Copy, PartialEq)]
+enum Fault {
+    EndsInHeader,
+    Tag,
+    Length,
+    EndsInBody,
+    Low,
+    High,
+    LowAboveHigh,
+    TimeNotRising,
+}
+
+const FAULTS: [Fault; 8] = [
+    Fault::EndsInHeader,
+    Fault::Tag,
+    Fault::Length,
+    Fault::EndsInBody,
+    Fault::Low,
+    Fault::High,
+    Fault::LowAboveHigh,
+    Fault::TimeNotRising,
+];
+
+/// How often each set of faults is tried in a field of a small file.
+const ROUNDS: usize = 4;
+
+pub fn compare(desk: &mut Desk) -> Outcome {
+    let too_many = Trace { address: 1, level: 0, ranges: full(MOST_RANGES + 1) };
+    for set in 0..1 << FAULTS.len() {
+        let faults: Vec<Fault> = (0..FAULTS.len()).filter(|bit| set >> bit & 1 == 1).map(|bit| FAULTS[bit]).collect();
+        for _ in 0..ROUNDS {
+            let mut trace = small_trace(&mut desk.random);
+            trace.ranges.truncate(3);
+            for field in 0..trace.ranges.len() + 2 {
+                one(desk, &trace, (field, &faults), BY_TRYING)?;
+            }
+        }
+        one(desk, &too_many, (MOST_RANGES + 2, &faults), BY_CLIPPING)?;
+    }
+    Ok(())
+}
+
+/// A trace's file with the faults in one field: 0 is the address, 1 the level, then the ranges.
+fn one(desk: &mut Desk, trace: &Trace, (field, faults): (usize, &[Fault]), fitter: Fitter) -> Outcome {
+    let random = &mut desk.random;
+    let mut trace = trace.clone();
+    for fault in faults {
+        spoil_value(&mut trace, field, *fault, random);
+    }
+    let mut file = bytes(&trace);
+    let (start, end) = (field_start(field), field_start(field + 1));
+    spoil_behind(&mut file, end, random);
+    for fault in faults {
+        spoil_bytes(&mut file, start, end, *fault, random);
+    }
+    desk.tally.add("sets of faults in one field", 1);
+    desk.file(&file, fitter)
+}
+
+fn spoil_value(trace: &mut Trace, field: usize, fault: Fault, random: &mut Random) {
+    let wrong = matches!(fault, Fault::Low | Fault::High);
+    match field {
+        0 if wrong => trace.address = 0,
+        1 if wrong => trace.level = outside(random),
+        0 | 1 => {}
+        _ => spoil_range(&mut trace.ranges, field - 2, fault, random),
+    }
+}
+
+fn spoil_range(ranges: &mut [Range], place: usize, fault: Fault, random: &mut Random) {
+    let before = ranges[place.saturating_sub(1)].time;
+    let range = &mut ranges[place];
+    match fault {
+        Fault::Low => range.low = outside(random),
+        Fault::High => range.high = outside(random),
+        Fault::LowAboveHigh if range.low < range.high => std::mem::swap(&mut range.low, &mut range.high),
+        Fault::LowAboveHigh => range.low = range.high.saturating_add(1),
+        Fault::TimeNotRising => range.time = before,
+        _ => {}
+    }
+}
+
+fn spoil_bytes(file: &mut Vec<u8>, start: usize, end: usize, fault: Fault, random: &mut Random) {
+    let has = |place: usize| file.len() > place;
+    match fault {
+        Fault::EndsInHeader => file.truncate(start + random.below(3)),
+        Fault::Tag if has(start) => file[start] = random.pick(&[0, 4, 255, file[start] + 1]),
+        Fault::Length if has(start + 2) => file[start + 1 + random.below(2)] ^= 1 << random.below(8),
+        Fault::EndsInBody => file.truncate(start + 3 + random.below(end - start - 3)),
+        _ => {}
+    }
+}
+
+/// Any bytes behind the field: what comes later must not matter.
+fn spoil_behind(file: &mut [u8], end: usize, random: &mut Random) {
+    let from = end.min(file.len());
+    if random.one_in(2) {
+        for byte in &mut file[from..] {
+            *byte = random.next() as u8;
+        }
+    }
+}

@@ -1,0 +1,86 @@
+//! The trial cases on size: 4,096 ranges are accepted and 4,097 refused, as a file and as lists, and what comes after
+//! the largest file, or after 65,536 bytes, does not matter.
+
+use crate::answers::{self, borrowed};
+use crate::desk::Desk;
+use crate::difference::Outcome;
+use crate::file;
+use crate::room::Room;
+use crate::segments::BY_CLIPPING;
+use crate::trace::{Lists, Trace, MOST_RANGES};
+use crate::traces::long::full;
+
+/// What the report program reads of standard input at most.
+const INPUT: usize = 65_536;
+
+/// The largest file.
+const LARGEST: usize = 61_451;
+
+/// How many other ends are tried for the largest file.
+const CUTS: usize = 300;
+
+pub fn compare(desk: &mut Desk) -> Outcome {
+    for count in [MOST_RANGES - 1, MOST_RANGES, MOST_RANGES + 1, MOST_RANGES + 2, 2 * MOST_RANGES] {
+        as_lists(desk, count)?;
+        let trace = Trace { address: 255, level: 0, ranges: full(count) };
+        desk.file(&file::bytes(&trace), BY_CLIPPING)?;
+        desk.tally.add("traces of about 4,096 ranges", 1);
+    }
+    around_the_largest_file(desk)?;
+    long_inputs(desk)
+}
+
+fn as_lists(desk: &mut Desk, count: usize) -> Outcome {
+    let lists = Lists::of(&full(count));
+    let expected = answers::write(1, 0, &lists);
+    desk.write((1, 0, &lists), borrowed(&expected), &Room::enough())?;
+    let expected = answers::segment(0, &lists, BY_CLIPPING);
+    desk.segment(0, &lists, borrowed(&expected), &Room::enough())?;
+    for k in [0, 1, 2, count, count + 1] {
+        let expected = answers::corners(k, &lists, BY_CLIPPING);
+        desk.corners(k, &lists, borrowed(&expected), &Room::enough())?;
+    }
+    Ok(())
+}
+
+/// Every end near the end of the largest file, and some others; with wrong bytes behind it.
+fn around_the_largest_file(desk: &mut Desk) -> Outcome {
+    let trace = Trace { address: 1, level: 0, ranges: full(MOST_RANGES + 3) };
+    let file = file::bytes(&trace);
+    let mut ends: Vec<usize> = (LARGEST - 32..=file.len()).collect();
+    ends.extend((0..CUTS).map(|_| desk.random.below(LARGEST)));
+    for end in ends {
+        let expected = answers::read(&file[..end]);
+        desk.read(&file[..end], borrowed(&expected), &Room::enough())?;
+        desk.tally.add("ends of the largest file", 1);
+    }
+    for place in 0..3 {
+        let mut file = file[..LARGEST + place + 1].to_vec();
+        file[LARGEST + place] = 77;
+        desk.file(&file, BY_CLIPPING)?;
+        file.resize(LARGEST + 3, 0);
+        desk.file(&file, BY_CLIPPING)?;
+    }
+    Ok(())
+}
+
+/// Inputs of 65,536 bytes and more: the report of the first 65,536 is the report of all.
+fn long_inputs(desk: &mut Desk) -> Outcome {
+    let trace = Trace { address: 1, level: 0, ranges: full(3 * MOST_RANGES) };
+    let good = file::bytes(&trace);
+    for length in [INPUT - 1, INPUT, INPUT + 1, 2 * INPUT] {
+        let random = (0..length).map(|_| desk.random.next() as u8).collect();
+        let mut junk_behind = good.clone();
+        junk_behind[LARGEST..].iter_mut().for_each(|byte| *byte ^= 0x55);
+        let mut late_fault = good.clone();
+        late_fault[LARGEST - 15 + 3 + 4] = 0x7f;
+        for file in [good.clone(), random, junk_behind, late_fault] {
+            let report = answers::report(&file[..INPUT.min(length)], BY_CLIPPING);
+            let expected = answers::read(&file[..length]);
+            desk.read(&file[..length], borrowed(&expected), &Room::enough())?;
+            desk.report(&file[..length], &report, &Room::enough())?;
+            desk.tally.add("inputs of about 65,536 bytes and more", 1);
+        }
+    }
+    Ok(())
+}

@@ -1,0 +1,143 @@
+//! Every set of faults in what Write, Segment and Corners are handed, so that the order of the refusals is tried.
+
+use crate::answers::{self, borrowed};
+use crate::calls::{corners, segment, write};
+use crate::damage::outside;
+use crate::desk::Desk;
+use crate::difference::Outcome;
+use crate::library::{CORNER_ROOM, SEGMENT_ROOM, WRITE_ROOM};
+use crate::random::Random;
+use crate::room::Room;
+use crate::segments::BY_TRYING;
+use crate::trace::{Lists, Range, LARGEST_ADDRESS, MOST_RANGES};
+use crate::traces::long::full;
+use crate::traces::small::small_ranges;
+
+#[derive(Clone, Copy, PartialEq)]
+enum Fault {
+    TooMany,
+    Low,
+    High,
+    LowAboveHigh,
+    TimeNotRising,
+    LengthsDiffer,
+    ShortSlice,
+    Address,
+    Level,
+    Prefix,
+}
+
+/// Faults in ranges come before the lengths are changed, so that there is a range to spoil.
+const FAULTS: [Fault; 10] = [
+    Fault::TooMany,
+    Fault::Low,
+    Fault::High,
+    Fault::LowAboveHigh,
+    Fault::TimeNotRising,
+    Fault::LengthsDiffer,
+    Fault::ShortSlice,
+    Fault::Address,
+    Fault::Level,
+    Fault::Prefix,
+];
+
+/// How often each set of faults is tried.
+const ROUNDS: usize = 10;
+
+/// What is handed to the three calls.
+struct Handed {
+    address: u16,
+    level: i32,
+    k: usize,
+    lists: Lists,
+    short: bool,
+}
+
+pub fn compare(desk: &mut Desk) -> Outcome {
+    for set in 0..1 << FAULTS.len() {
+        let faults = || (0..FAULTS.len()).filter(|bit| set >> bit & 1 == 1).map(|bit| FAULTS[bit]);
+        let many = faults().any(|fault| fault == Fault::TooMany);
+        for _ in 0..if many { 1 } else { ROUNDS } {
+            let mut handed = sound(many, &mut desk.random);
+            for fault in faults() {
+                spoil(&mut handed, fault, &mut desk.random);
+            }
+            three_calls(desk, &handed)?;
+        }
+    }
+    Ok(())
+}
+
+fn sound(many: bool, random: &mut Random) -> Handed {
+    let ranges = if many { full(MOST_RANGES + 1 + random.below(40)) } else { some_ranges(random) };
+    Handed {
+        address: 1 + random.below(LARGEST_ADDRESS as usize) as u16,
+        level: random.between(-50, 50) as i32,
+        k: 1 + random.below(ranges.len()),
+        lists: Lists::of(&ranges),
+        short: false,
+    }
+}
+
+fn some_ranges(random: &mut Random) -> Vec<Range> {
+    loop {
+        let (ranges, _) = small_ranges(random);
+        if ranges.len() > 1 {
+            return ranges;
+        }
+    }
+}
+
+/// Adds a fault; those in ranges are in any range, so that an earlier one may hide a later one.
+fn spoil(handed: &mut Handed, fault: Fault, random: &mut Random) {
+    let lists = &mut handed.lists;
+    let place = random.below(lists.times.len().max(1));
+    match fault {
+        Fault::TooMany => {}
+        Fault::ShortSlice => handed.short = true,
+        Fault::LengthsDiffer => change_length(lists, random),
+        Fault::Address => handed.address = random.pick(&[0, 256, 257, 511, 512, 65_535]),
+        Fault::Level => handed.level = outside(random),
+        Fault::Low => lists.lows[place] = outside(random),
+        Fault::High => lists.highs[place] = outside(random),
+        Fault::LowAboveHigh => lists.lows[place] = lists.highs[place].saturating_add(1),
+        Fault::TimeNotRising => lists.times[place] = lists.times[place.saturating_sub(1)],
+        Fault::Prefix => {
+            let count = lists.times.len();
+            handed.k = random.pick(&[0, 0, count + 1, count + 5, usize::MAX]);
+        }
+    }
+}
+
+/// One or two of the lists empty, one shorter or one longer.
+fn change_length(lists: &mut Lists, random: &mut Random) {
+    let count = random.pick(&[0, lists.times.len() - 1, lists.times.len() + 1]);
+    let changed = 1 + random.below(6);
+    if changed & 1 != 0 {
+        lists.times.resize(count, 0);
+    }
+    if changed & 2 != 0 {
+        lists.lows.resize(count, 0);
+    }
+    if changed & 4 != 0 {
+        lists.highs.resize(count, 0);
+    }
+}
+
+fn three_calls(desk: &mut Desk, handed: &Handed) -> Outcome {
+    let Handed { address, level, k, lists, short } = handed;
+    desk.tally.add("sets of faults in lists", 1);
+    let room = |places, least, random: &mut Random| match short {
+        true => Room::too_short(places, least, random),
+        false => Room::enough(),
+    };
+    let for_write = room(write::PLACES, WRITE_ROOM, &mut desk.random);
+    let expected = answers::write(*address, *level, lists);
+    desk.write((*address, *level, lists), borrowed(&expected), &for_write)?;
+    let for_segment = room(segment::PLACES, SEGMENT_ROOM, &mut desk.random);
+    let expected = answers::segment(*level, lists, BY_TRYING);
+    desk.segment(*level, lists, borrowed(&expected), &for_segment)?;
+    let for_corners = room(corners::PLACES, CORNER_ROOM, &mut desk.random);
+    let expected = answers::corners(*k, lists, BY_TRYING);
+    desk.corners(*k, lists, borrowed(&expected), &for_corners)
+}

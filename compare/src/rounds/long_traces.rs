@@ -1,0 +1,73 @@
+//! Long traces against the clipped polygon: every call, with Corners for every k or for many.
+
+use crate::desk::Desk;
+use crate::difference::{Difference, Outcome};
+use crate::file;
+use crate::meaning;
+use crate::report;
+use crate::room::Room;
+use crate::segments::{stages, Segment, Stage, BY_CLIPPING};
+use crate::trace::{Lists, Range, Trace, MOST_RANGES};
+use crate::traces::levels::level;
+use crate::traces::long::SHAPES;
+
+/// Traces of so many ranges are tried by both fitters.
+const TRIED: usize = 60;
+
+/// Traces of no more ranges than this have Corners compared for every k.
+const EVERY_K: usize = 300;
+
+/// For longer ones, about so many k are compared.
+const SOME_K: usize = 40;
+
+/// How many levels are tried on each trace.
+const LEVELS: usize = 4;
+
+pub fn compare(desk: &mut Desk) -> Outcome {
+    for formula in SHAPES {
+        for count in [TRIED, EVERY_K, 1500, MOST_RANGES - 1, MOST_RANGES] {
+            desk.tally.add("long traces", 1);
+            let ranges = formula(count, &mut desk.random);
+            if count == TRIED {
+                meaning::check_fitters(&ranges)?;
+            }
+            let last_stages = every_stage(desk, &ranges)?;
+            for _ in 0..LEVELS {
+                at_some_level(desk, &ranges, &last_stages)?;
+            }
+        }
+    }
+    Ok(())
+}
+
+/// Compares Corners, and gives the last stage of each segment.
+fn every_stage(desk: &mut Desk, ranges: &[Range]) -> Result<Vec<Stage>, Box<Difference>> {
+    let lists = Lists::of(ranges);
+    let count = ranges.len();
+    let mut last_stages = Vec::new();
+    for stage in stages(ranges, BY_CLIPPING) {
+        let edge = stage.end < 4 || stage.end + 2 > count;
+        if edge || count <= EVERY_K || desk.random.one_in(count / SOME_K) {
+            desk.corners(stage.end, &lists, Ok(&stage.corners), &Room::enough())?;
+            desk.tally.add("long traces: corners", stage.corners.len());
+            desk.tally.raise("long traces: most corners of one fit", stage.corners.len());
+        }
+        stage.keep(&mut last_stages);
+    }
+    desk.tally.add("long traces: segments", last_stages.len());
+    desk.tally.raise("long traces: most segments of one trace", last_stages.len());
+    Ok(last_stages)
+}
+
+fn at_some_level(desk: &mut Desk, ranges: &[Range], last_stages: &[Stage]) -> Outcome {
+    let level = level(ranges, last_stages, &mut desk.random);
+    let segments: Vec<Segment> = last_stages.iter().map(|stage| stage.segment(ranges, level)).collect();
+    let trace = Trace { address: 255, level, ranges: ranges.to_vec() };
+    let lists = Lists::of(ranges);
+    let file = file::bytes(&trace);
+    let text = report::accepted(&trace, &segments);
+    desk.segment(level, &lists, Ok(&segments), &Room::enough())?;
+    desk.read(&file, Ok(&trace), &Room::enough())?;
+    desk.write((trace.address, level, &lists), Ok(&file), &Room::enough())?;
+    desk.report(&file, &text, &Room::enough())
+}

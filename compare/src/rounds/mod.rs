@@ -1,0 +1,10 @@
+//! The comparison, round by round.
+
+pub mod damaged_files;
+pub mod field_faults;
+pub mod largest;
+pub mod list_faults;
+pub mod long_traces;
+pub mod samples;
+pub mod short_slices;
+pub mod small_traces;

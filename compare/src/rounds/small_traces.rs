@@ -1,0 +1,110 @@
+//! Random small traces: every call, with Corners for every k and for some that are too large.
+
+use crate::answers;
+use crate::desk::Desk;
+use crate::difference::Outcome;
+use crate::file;
+use crate::line::Line;
+use crate::meaning;
+use crate::outlook::Outlook;
+use crate::report;
+use crate::room::Room;
+use crate::segments::{segments, stages, Segment, Stage, BY_TRYING};
+use crate::tally::Tally;
+use crate::trace::{Lists, Range, Trace, LARGEST_ADDRESS, LAST_TIME};
+use crate::traces::levels::level;
+use crate::traces::small::{kinds, small_ranges};
+
+pub fn compare(desk: &mut Desk, traces: usize) -> Outcome {
+    desk.tally.add("small traces", 0);
+    for kind in kinds() {
+        desk.tally.add(kind, 0);
+    }
+    for _ in 0..traces {
+        let (ranges, kind) = small_ranges(&mut desk.random);
+        let stages: Vec<Stage> = stages(&ranges, BY_TRYING).collect();
+        let level = level(&ranges, &stages, &mut desk.random);
+        let address = 1 + desk.random.below(LARGEST_ADDRESS as usize) as u16;
+        let trace = Trace { address, level, ranges };
+        let segments = segments(&trace.ranges, level, BY_TRYING);
+        meaning::check(&trace, &stages, &segments)?;
+        meaning::check_fitters(&trace.ranges)?;
+        desk.tally.add("small traces", 1);
+        desk.tally.add(kind, 1);
+        count_fits(&mut desk.tally, &trace.ranges, &stages);
+        count_times(&mut desk.tally, &stages, &segments, level);
+        calls(desk, &trace, &segments)?;
+        every_prefix(desk, &trace, &stages)?;
+    }
+    Ok(())
+}
+
+fn calls(desk: &mut Desk, trace: &Trace, segments: &[Segment]) -> Outcome {
+    let lists = Lists::of(&trace.ranges);
+    let file = file::bytes(trace);
+    let text = report::accepted(trace, segments);
+    desk.write((trace.address, trace.level, &lists), Ok(&file), &Room::enough())?;
+    desk.read(&file, Ok(trace), &Room::enough())?;
+    desk.segment(trace.level, &lists, Ok(segments), &Room::enough())?;
+    desk.report(&file, &text, &Room::enough())
+}
+
+fn every_prefix(desk: &mut Desk, trace: &Trace, stages: &[Stage]) -> Outcome {
+    let lists = Lists::of(&trace.ranges);
+    for stage in stages {
+        desk.corners(stage.end, &lists, Ok(&stage.corners), &Room::enough())?;
+    }
+    let count = stages.len();
+    let huge = [4096, 1 << 32, (1 << 32) + count, 1 << 63, usize::MAX];
+    for k in [0, count + 1, desk.random.pick(&huge)] {
+        let refused = answers::prefix(k, &lists).map(|_| [].as_slice());
+        desk.corners(k, &lists, refused, &Room::enough())?;
+    }
+    Ok(())
+}
+
+fn count_fits(tally: &mut Tally, ranges: &[Range], stages: &[Stage]) {
+    let with = |count: usize| stages.iter().filter(|stage| stage.corners.len() == count).count();
+    let touches = |(stage, range): (&Stage, &Range)| touches(&stage.corners, range);
+    tally.add("fits", stages.len());
+    tally.add("fits: open", with(0));
+    tally.add("fits: a point", with(1));
+    tally.add("fits: a segment", with(2));
+    tally.add("corners", stages.iter().map(|stage| stage.corners.len()).sum());
+    let next = ranges.iter().skip(1);
+    let touched = stages.iter().zip(next).filter(|pair| touches(*pair)).count();
+    tally.add("corners just touched by the next range", touched);
+}
+
+/// Whether an end of the range is on a corner.
+fn touches(corners: &[Line], range: &Range) -> bool {
+    let at = |line: &Line, end: i32| line.above(end as i128, range.time as i128) == 0;
+    corners.iter().any(|line| at(line, range.low) || at(line, range.high))
+}
+
+fn count_times(tally: &mut Tally, stages: &[Stage], segments: &[Segment], level: i32) {
+    tally.add("segments", segments.len());
+    let mut end = 0;
+    for segment in segments {
+        end += segment.count;
+        if let Outlook::Lines { some, all, .. } = segment.outlook {
+            count_time(tally, "some", some, segment.last);
+            count_time(tally, "all", all, segment.last);
+            let later = some.is_none() && reached_one_later(&stages[end - 1].corners, level);
+            tally.add("some: none, but reached one later", later as usize);
+        }
+    }
+}
+
+fn count_time(tally: &mut Tally, name: &str, time: Option<u32>, last: u32) {
+    let at_last = time == Some(last);
+    tally.add(&format!("{name}: the segment's last time"), at_last as usize);
+    tally.add(&format!("{name}: later"), (time > Some(last)) as usize);
+    let at_end = time == Some(LAST_TIME) && !at_last;
+    tally.add(&format!("{name}: the last time of all, not before"), at_end as usize);
+    tally.add(&format!("{name}: none"), time.is_none() as usize);
+}
+
+fn reached_one_later(corners: &[Line], level: i32) -> bool {
+    corners.iter().any(|line| line.above(level as i128, LAST_TIME as i128 + 1) >= 0)
+}

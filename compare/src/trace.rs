@@ -1,0 +1,65 @@
+//! Traces as document 01 has them, and their ranges as three lists that may be wrong.
+
+pub const LAST_TIME: u32 = 4_294_967_295;
+pub const LEAST_VALUE: i32 = -268_435_456;
+pub const LARGEST_VALUE: i32 = 268_435_456;
+pub const MOST_RANGES: usize = 4096;
+pub const LARGEST_ADDRESS: u16 = 255;
+
+#[derive(Clone, Copy, PartialEq, Eq, Debug)]
+pub struct Range {
+    pub time: u32,
+    pub low: i32,
+    pub high: i32,
+}
+
+#[derive(Clone, PartialEq, Eq, Debug)]
+pub struct Trace {
+    pub address: u16,
+    pub level: i32,
+    pub ranges: Vec<Range>,
+}
+
+/// Three lists as a caller may hand them in: of any lengths, with any numbers.
+#[derive(Clone, PartialEq, Eq, Debug, Default)]
+pub struct Lists {
+    pub times: Vec<u32>,
+    pub lows: Vec<i32>,
+    pub highs: Vec<i32>,
+}
+
+impl Lists {
+    pub fn of(ranges: &[Range]) -> Lists {
+        Lists {
+            times: ranges.iter().map(|range| range.time).collect(),
+            lows: ranges.iter().map(|range| range.low).collect(),
+            highs: ranges.iter().map(|range| range.high).collect(),
+        }
+    }
+
+    pub fn differ_in_length(&self) -> bool {
+        self.times.len() != self.lows.len() || self.lows.len() != self.highs.len()
+    }
+
+    /// The ranges that all three lists reach.
+    pub fn ranges(&self) -> Vec<Range> {
+        let values = self.lows.iter().zip(&self.highs);
+        let ranges = self.times.iter().zip(values);
+        ranges.map(|(&time, (&low, &high))| Range { time, low, high }).collect()
+    }
+
+    /// A line `time low high` for each place, `-` where a list is too short.
+    pub fn in_words(&self) -> String {
+        fn entry<T: ToString>(list: &[T], place: usize) -> String {
+            list.get(place).map_or("-".to_string(), T::to_string)
+        }
+        let count = self.times.len().max(self.lows.len()).max(self.highs.len());
+        let line = |place: usize| {
+            let time = entry(&self.times, place);
+            let low = entry(&self.lows, place);
+            let high = entry(&self.highs, place);
+            format!("{time} {low} {high}\n")
+        };
+        (0..count).map(line).collect()
+    }
+}

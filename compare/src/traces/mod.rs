@@ -1,0 +1,7 @@
+//! Where the traces come from.
+
+pub mod grown;
+pub mod levels;
+pub mod long;
+pub mod small;
+pub mod times;
