@@ -46,9 +46,9 @@ pub extern "C" fn humoraki_write(
     ensures { λ r. ⌜ AfterWrite address level (record { times = now (times .entry); lows = now (lows .entry); highs = now (highs .entry) }) (record { file = now (file .entry); count = now (count .entry) }) (record { file = now (file .exit); count = now (count .exit) }) r ⌝ }
 {
     let answer = trace::write(address, level, times, lows, highs, file);
-    let told = answers::of_write(answer, *count);
-    *count = told.count;
-    told.number
+    let written = answers::of_write(answer, *count);
+    *count = written.count;
+    written.number
 }
 
 // The segments of a trace, and their count.
@@ -90,9 +90,9 @@ pub extern "C" fn humoraki_segment(
         somes,
         alls,
     );
-    let told = answers::of_segment(answer, *count);
-    *count = told.count;
-    told.number
+    let segmented = answers::of_segment(answer, *count);
+    *count = segmented.count;
+    segmented.number
 }
 
 // The corners of the fit of the segment then running after the first k ranges, and their count, which is 0 where the fit is open.
@@ -110,9 +110,9 @@ pub extern "C" fn humoraki_corners(
     ensures { λ r. ⌜ AfterCorners k (record { times = now (times .entry); lows = now (lows .entry); highs = now (highs .entry) }) (record { ps = now (ps .entry); qs = now (qs .entry); ds = now (ds .entry); count = now (count .entry) }) (record { ps = now (ps .exit); qs = now (qs .exit); ds = now (ds .exit); count = now (count .exit) }) r ⌝ }
 {
     let answer = drift::corners(k, times, lows, highs, ps, qs, ds);
-    let told = answers::of_corners(answer, *count);
-    *count = told.count;
-    told.number
+    let cornered = answers::of_corners(answer, *count);
+    *count = cornered.count;
+    cornered.number
 }
 
 // The report of a file, and the count of its bytes.

@@ -12,15 +12,6 @@ of-corners-requires c κs = tt
 abbrev called : tie.After-of-corners → tie.After-corners
 called c = c .before .before .before .before .before
 
-same-length : tie.Need-same-length
-same-length c = called c .corners .kept .1 .1 .1 .1 .0
-
-same-length-2 : tie.Need-same-length-2
-same-length-2 c = called c .corners .kept .1 .1 .1 .1 .1 .0
-
-same-length-3 : tie.Need-same-length-3
-same-length-3 c = called c .corners .kept .1 .1 .1 .1 .1 .1 .0
-
 returns : tie.Need-returns
 returns c =
     let call = called c .corners in
@@ -30,6 +21,15 @@ returns c =
     (record { ps = call .last .1 .1 .1 .1 .0; qs = call .last .1 .1 .1 .1 .1 .0; ds = call .last .1 .1 .1 .1 .1 .1 .0; count = c .of-corners .result .count })
     (call .ensures)
     (c .of-corners .ensures)
+
+same-length : tie.Need-same-length
+same-length c = called c .corners .kept .1 .1 .1 .1 .0
+
+same-length-2 : tie.Need-same-length-2
+same-length-2 c = called c .corners .kept .1 .1 .1 .1 .1 .0
+
+same-length-3 : tie.Need-same-length-3
+same-length-3 c = called c .corners .kept .1 .1 .1 .1 .1 .1 .0
 
 pub humoraki-corners-spec : {M : Type 1} → statement M
 humoraki-corners-spec = tie.close (tie.spec corners-requires of-corners-requires same-length same-length-2 same-length-3 returns)

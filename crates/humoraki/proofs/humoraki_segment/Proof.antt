@@ -17,6 +17,19 @@ of-segment-requires c κs = tt
 abbrev called : tie.After-of-segment → tie.After-segment
 called c = c .before .before .before .before .before .before .before .before .before .before .before .before .before .before .before .before .before .before
 
+-- the level is passed on as bits
+returns : tie.Need-returns
+returns c =
+    let call = called c .segment in
+    let s = called c .before .before .before .before .before .before .before .before .before .before .before .before .before .before .before .before .before .before in
+    let args = s .args in
+    let lists : Lists = record { times = args .times .now; lows = args .lows .now; highs = args .highs .now } in
+    let old : Columns = columns (args .first-times .now) (args .last-times .now) (args .counts .now) (args .slow-ps .now) (args .slow-qs .now) (args .slow-ds .now) (args .fast-ps .now) (args .fast-qs .now) (args .fast-ds .now) (args .somes .now) (args .alls .now) in
+    let new : Columns = columns (call .last .1 .1 .1 .1 .0) (call .last .1 .1 .1 .1 .1 .0) (call .last .1 .1 .1 .1 .1 .1 .0) (call .last .1 .1 .1 .1 .1 .1 .1 .0) (call .last .1 .1 .1 .1 .1 .1 .1 .1 .0) (call .last .1 .1 .1 .1 .1 .1 .1 .1 .1 .0) (call .last .1 .1 .1 .1 .1 .1 .1 .1 .1 .1 .0) (call .last .1 .1 .1 .1 .1 .1 .1 .1 .1 .1 .1 .0) (call .last .1 .1 .1 .1 .1 .1 .1 .1 .1 .1 .1 .1 .0) (call .last .1 .1 .1 .1 .1 .1 .1 .1 .1 .1 .1 .1 .1 .0) (call .last .1 .1 .1 .1 .1 .1 .1 .1 .1 .1 .1 .1 .1 .1 .0) in
+    after-segment (args .level) lists (record { columns = old; count = args .count .now }) (record { columns = new; count = c .of-segment .result .count })
+    (subst (λ level. SegmentPromise level lists old new (call .result)) (toZ-ofZ (s .fits .level)) (call .ensures))
+    (c .of-segment .ensures)
+
 same-length : tie.Need-same-length
 same-length c = called c .segment .kept .1 .1 .1 .1 .0
 
@@ -49,19 +62,6 @@ same-length-10 c = called c .segment .kept .1 .1 .1 .1 .1 .1 .1 .1 .1 .1 .1 .1 .
 
 same-length-11 : tie.Need-same-length-11
 same-length-11 c = called c .segment .kept .1 .1 .1 .1 .1 .1 .1 .1 .1 .1 .1 .1 .1 .1 .0
-
--- the level is passed on as bits
-returns : tie.Need-returns
-returns c =
-    let call = called c .segment in
-    let s = called c .before .before .before .before .before .before .before .before .before .before .before .before .before .before .before .before .before .before in
-    let args = s .args in
-    let lists : Lists = record { times = args .times .now; lows = args .lows .now; highs = args .highs .now } in
-    let old : Columns = columns (args .first-times .now) (args .last-times .now) (args .counts .now) (args .slow-ps .now) (args .slow-qs .now) (args .slow-ds .now) (args .fast-ps .now) (args .fast-qs .now) (args .fast-ds .now) (args .somes .now) (args .alls .now) in
-    let new : Columns = columns (call .last .1 .1 .1 .1 .0) (call .last .1 .1 .1 .1 .1 .0) (call .last .1 .1 .1 .1 .1 .1 .0) (call .last .1 .1 .1 .1 .1 .1 .1 .0) (call .last .1 .1 .1 .1 .1 .1 .1 .1 .0) (call .last .1 .1 .1 .1 .1 .1 .1 .1 .1 .0) (call .last .1 .1 .1 .1 .1 .1 .1 .1 .1 .1 .0) (call .last .1 .1 .1 .1 .1 .1 .1 .1 .1 .1 .1 .0) (call .last .1 .1 .1 .1 .1 .1 .1 .1 .1 .1 .1 .1 .0) (call .last .1 .1 .1 .1 .1 .1 .1 .1 .1 .1 .1 .1 .1 .0) (call .last .1 .1 .1 .1 .1 .1 .1 .1 .1 .1 .1 .1 .1 .1 .0) in
-    after-segment (args .level) lists (record { columns = old; count = args .count .now }) (record { columns = new; count = c .of-segment .result .count })
-    (subst (λ level. SegmentPromise level lists old new (call .result)) (toZ-ofZ (s .fits .level)) (call .ensures))
-    (c .of-segment .ensures)
 
 pub humoraki-segment-spec : {M : Type 1} → statement M
 humoraki-segment-spec =

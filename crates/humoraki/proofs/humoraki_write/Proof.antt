@@ -16,9 +16,6 @@ of-write-requires c κs = tt
 abbrev called : tie.After-of-write → tie.After-write
 called c = c .before .before .before .before
 
-same-length : tie.Need-same-length
-same-length c = called c .write .kept .1 .1 .1 .1 .1 .0
-
 -- the level is passed on as bits
 returns : tie.Need-returns
 returns c =
@@ -29,6 +26,9 @@ returns c =
     after-write (args .address) (args .level) lists (record { file = args .file .now; count = args .count .now }) (record { file = call .last .1 .1 .1 .1 .1 .0; count = c .of-write .result .count })
     (subst (λ level. WritePromise (args .address) level lists (args .file .now) (call .last .1 .1 .1 .1 .1 .0) (call .result)) (toZ-ofZ (s .fits .level)) (call .ensures))
     (c .of-write .ensures)
+
+same-length : tie.Need-same-length
+same-length c = called c .write .kept .1 .1 .1 .1 .1 .0
 
 pub humoraki-write-spec : {M : Type 1} → statement M
 humoraki-write-spec = tie.close (tie.spec write-requires of-write-requires same-length returns)
