@@ -1,0 +1,39 @@
+//! Measures the proved library beside an unproved program of the same algorithm, in one run.
+
+mod agreement;
+mod buffers;
+mod calls;
+mod group;
+mod library;
+mod measure;
+mod proved;
+mod random;
+mod slices;
+mod table;
+mod traces;
+mod unproved;
+
+use buffers::Buffers;
+use calls::Call;
+use group::Group;
+use traces::Shape;
+
+/// Each measure has so many rounds, spread over the run, so that no busy moment of the machine spoils one.
+const ROUNDS: usize = 20;
+
+fn main() {
+    let mut groups = Vec::new();
+    for call in [Call::Segment, Call::Corners] {
+        for shape in [Shape::LongSegment, Shape::ShortSegments, Shape::LargeChains] {
+            groups.push(Group::new(call, shape));
+        }
+    }
+    let mut one = Buffers::new();
+    let mut other = Buffers::new();
+    for _ in 0..ROUNDS {
+        for group in &mut groups {
+            group.round(&mut one, &mut other);
+        }
+    }
+    table::print(&groups);
+}

@@ -1,0 +1,85 @@
+//! The measured times as a table in Markdown.
+
+use crate::calls::Call;
+use crate::group::Group;
+use crate::measure::Times;
+use crate::traces::Shape;
+
+/// The places of 1,024 and 4,096 among the lengths.
+const GROWTH_FROM: usize = 2;
+const GROWTH_TO: usize = 4;
+
+const NOTES: &str = "\
+Nanoseconds for each range. Proved is the static library, unproved an ordinary Rust program of the same algorithm; \
+both are compiled at -O3 for any x86-64, and gave the same for every trace before either was measured. \
+They take turns, and a time is the least of many calls. At each length the traces have 16,384 ranges in all. \
+The slices to be filled are allocated once and not cleared between calls; \
+the two chains, 4,096 entries each, are on the stack of both programs, and each call sets them to 0. \
+Corners is asked after all ranges. Segments and corners are counted at 4,096 ranges. \
+Growth is the time for each range at 4,096 ranges over that at 1,024: 1 is linear.";
+
+/// How the time for each range grows from 1,024 to 4,096 ranges: 1 where the time is linear.
+fn growth(numbers: &[f64]) -> f64 {
+    numbers[GROWTH_TO] / numbers[GROWTH_FROM]
+}
+
+fn shape_name(shape: Shape) -> &'static str {
+    match shape {
+        Shape::LongSegment => "one long segment",
+        Shape::ShortSegments => "many short segments",
+        Shape::LargeChains => "large chains",
+    }
+}
+
+/// A number with a comma before its last three digits.
+fn with_comma(n: usize) -> String {
+    if n < 1000 {
+        n.to_string()
+    } else {
+        format!("{},{:03}", n / 1000, n % 1000)
+    }
+}
+
+fn print_row(heads: [&str; 3], numbers: &[f64], digits: usize, last: &str) {
+    print!("| {} |", heads.join(" | "));
+    for number in numbers {
+        print!(" {number:.digits$} |");
+    }
+    println!(" {last} |");
+}
+
+fn print_group(group: &Group) {
+    let (call, counted) = match group.call {
+        Call::Segment => ("Segment", "segments"),
+        Call::Corners => ("Corners", "corners"),
+    };
+    let proved = group.column(|t| t.proved);
+    let unproved = group.column(|t| t.unproved);
+    let ratio = group.column(Times::ratio);
+    let grown = |numbers: &[f64]| format!("{:.2}", growth(numbers));
+    let heads = [call, shape_name(group.shape), "proved, ns"];
+    print_row(heads, &proved, 1, &grown(&proved));
+    let heads = [
+        "",
+        &format!("{counted}: {}", with_comma(group.count)),
+        "unproved, ns",
+    ];
+    print_row(heads, &unproved, 1, &grown(&unproved));
+    print_row(["", "", "ratio"], &ratio, 2, "");
+}
+
+fn largest(numbers: impl Iterator<Item = f64>) -> f64 {
+    numbers.fold(0.0, f64::max)
+}
+
+pub fn print(groups: &[Group]) {
+    println!("| call | trace | each range | 256 | 512 | 1,024 | 2,048 | 4,096 | growth |");
+    println!("|---|---|---|--:|--:|--:|--:|--:|--:|");
+    groups.iter().for_each(print_group);
+    let ratio = largest(groups.iter().flat_map(|g| g.column(Times::ratio)));
+    let grown = largest(groups.iter().map(|g| growth(&g.column(|t| t.proved))));
+    println!();
+    println!("Largest ratio {ratio:.2}; largest growth of the proved library {grown:.2}.");
+    println!();
+    println!("{NOTES}");
+}

@@ -1,0 +1,45 @@
+//! When a line reaches the service level, and the outlook of a segment's two lines.
+
+use super::line::Line;
+
+/// Open: one range. Else the slow and the fast line, and the times at which some and all lines of the fit reach the level.
+#[derive(Clone, Copy)]
+pub enum Outlook {
+    Open,
+    Lines {
+        slow: Line,
+        fast: Line,
+        some: Option<u32>,
+        all: Option<u32>,
+    },
+}
+
+/// n / d rounded up, for d above 0.
+fn ceil_div(n: i64, d: i64) -> i64 {
+    n / d + i64::from(0 < n % d)
+}
+
+/// The first time from `from` on at which the line is at or above the level.
+fn reach_time(line: Line, level: i32, from: u32) -> Option<u32> {
+    let scaled = line.d * i64::from(level);
+    if scaled <= line.p * i64::from(from) + line.q {
+        return Some(from);
+    }
+    if line.p <= 0 {
+        return None;
+    }
+    u32::try_from(ceil_div(scaled - line.q, line.p)).ok()
+}
+
+impl Outlook {
+    pub fn of_lines(slow: Line, fast: Line, level: i32, last_time: u32) -> Self {
+        let slow = slow.reduced();
+        let fast = fast.reduced();
+        Outlook::Lines {
+            slow,
+            fast,
+            some: reach_time(fast, level, last_time),
+            all: reach_time(slow, level, last_time),
+        }
+    }
+}
