@@ -49,7 +49,7 @@ pub record BelowAt (ts : List ℕ) (gs es : List ℤ) (up down : List ℕ) (x : 
 abbrev pub shortenedTo : Polygon → Trimmed → ℕ → Polygon
 shortenedTo x t end = record { upper = record { start = x .upper .start; end = end }; lower = record { start = t .start; end = x .lower .end }; slow = x .slow; fast = t .fast }
 
-module _ {flip : Bool} {ts : List ℕ} {gs es : List ℤ} {up down : List ℕ} {x : Polygon} {k n : ℕ} {w : Trimmed} (s : Shape x k n) (t : TrimmedAt flip ts gs es up down x k w) where
+module _ {flip : Bool} {ts : List ℕ} {gs es : List ℤ} {up down : List ℕ} {x : Polygon} {k n : ℕ} {w : Trimmed} (s : Shape x k n) (t : TrimmedAt flip ts gs es up down (x .upper) (x .lower) k w) where
   -- the test of the code is the test of the model
   turn-is : {r : Bool} → r ≡ ltZ (pos 0) (turn (lineOf (w .slow)) (lineOf (w .fast)))
       → r ≡ ltZ (pos 0) (turn (through (lastOf (popEnd (endAt flip ts gs k) (between (ofChain flip ts gs up) (x .upper .start) (x .upper .end)))) (endAt flip ts gs k)) (through (headOf (dropOver (endAt flip ts gs k) (between (ofChain flip ts es down) (x .lower .start) (x .lower .end)))) (endAt flip ts gs k)))

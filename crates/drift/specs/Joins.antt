@@ -54,7 +54,7 @@ module _ {ts : List ℕ} {gs es : List ℤ} {up down : List ℕ} {x : Polygon} {
       })
 
   module _ (o : on ≡ false) {over : Bool} (f : over ≡ ltZ (pos 0) (gap (lineOf (x .fast)) (endAt false ts gs k))) where
-    pub point-cut : {w : Trimmed} → over ≡ true → getD es k (pos 0) ≡ getD gs k (pos 0) → 0 < length up → 0 < length down → TrimmedAt false ts gs es up down x k w
+    pub point-cut : {w : Trimmed} → over ≡ true → getD es k (pos 0) ≡ getD gs k (pos 0) → 0 < length up → 0 < length down → TrimmedAt false ts gs es up down (x .upper) (x .lower) k w
         → {r : Polygon} → r ≡ record { upper = record { start = 0; end = 1 }; lower = record { start = 0; end = 1 }; slow = w .slow; fast = w .fast }
         → PointAt ts gs es up down x k (set up 0 k) (set down 0 k) r
     point-cut h p lu ld t q =

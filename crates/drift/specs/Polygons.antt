@@ -20,6 +20,7 @@ use Rattle.chains.specs.Pop.{popEnd}
 use Rattle.drift_laws.specs.RangeEnds.{endAt}
 use Rattle.drift_laws.specs.ChainParts.{between, ofChain, head-between, last-between, PoppedTo, DroppedTo}
 use Rattle.drift.specs.declared.values.Line.{Line}
+use Rattle.drift.specs.declared.chain.Part.{Part}
 use Rattle.drift.specs.declared.chain.Polygon.{Polygon}
 use Rattle.drift.specs.declared.chain.Trimmed.{Trimmed}
 use Rattle.drift.specs.Meanings.{lineOf}
@@ -50,26 +51,26 @@ shape-more s h k =
     record { up = s .up; up-to = omega arith; down = s .down; down-to = omega arith; slow-in = s .slow-in; fast-in = s .fast-in }
 
 -- ---- shortened at range k
-pub record TrimmedAt (flip : Bool) (ts : List ℕ) (gs es : List ℤ) (up down : List ℕ) (x : Polygon) (k : ℕ) (r : Trimmed) : Type 0 where
-  pub pops : PoppedTo (ofChain flip ts gs up) (endAt flip ts gs k) (x .upper .start) (x .upper .end) (r .end)
-  pub drops : DroppedTo (ofChain flip ts es down) (endAt flip ts gs k) (x .lower .start) (x .lower .end) (r .start)
-  pub slow-is : lineOf (r .slow) ≡ through (lastOf (popEnd (endAt flip ts gs k) (between (ofChain flip ts gs up) (x .upper .start) (x .upper .end)))) (endAt flip ts gs k)
-  pub fast-is : lineOf (r .fast) ≡ through (headOf (dropOver (endAt flip ts gs k) (between (ofChain flip ts es down) (x .lower .start) (x .lower .end)))) (endAt flip ts gs k)
+pub record TrimmedAt (flip : Bool) (ts : List ℕ) (gs es : List ℤ) (up down : List ℕ) (upper lower : Part) (k : ℕ) (r : Trimmed) : Type 0 where
+  pub pops : PoppedTo (ofChain flip ts gs up) (endAt flip ts gs k) (upper .start) (upper .end) (r .end)
+  pub drops : DroppedTo (ofChain flip ts es down) (endAt flip ts gs k) (lower .start) (lower .end) (r .start)
+  pub slow-is : lineOf (r .slow) ≡ through (lastOf (popEnd (endAt flip ts gs k) (between (ofChain flip ts gs up) (upper .start) (upper .end)))) (endAt flip ts gs k)
+  pub fast-is : lineOf (r .fast) ≡ through (headOf (dropOver (endAt flip ts gs k) (between (ofChain flip ts es down) (lower .start) (lower .end)))) (endAt flip ts gs k)
   pub slow-in : Bounded (r .slow)
   pub fast-in : Bounded (r .fast)
 
-module _ {flip : Bool} {ts : List ℕ} {gs es : List ℤ} {up down : List ℕ} {x : Polygon} {k : ℕ} {end start : ℕ} {v y : Line} where
-  pub trimmed-of : PoppedTo (ofChain flip ts gs up) (endAt flip ts gs k) (x .upper .start) (x .upper .end) end
-      → DroppedTo (ofChain flip ts es down) (endAt flip ts gs k) (x .lower .start) (x .lower .end) start
+module _ {flip : Bool} {ts : List ℕ} {gs es : List ℤ} {up down : List ℕ} {upper lower : Part} {k : ℕ} {end start : ℕ} {v y : Line} where
+  pub trimmed-of : PoppedTo (ofChain flip ts gs up) (endAt flip ts gs k) (upper .start) (upper .end) end
+      → DroppedTo (ofChain flip ts es down) (endAt flip ts gs k) (lower .start) (lower .end) start
       → LineJoining flip ts gs gs (getD up (end - 1) 0) k v
       → LineJoining flip ts es gs (getD down start 0) k y
-      → TrimmedAt flip ts gs es up down x k (record { end = end; start = start; slow = v; fast = y })
+      → TrimmedAt flip ts gs es up down upper lower k (record { end = end; start = start; slow = v; fast = y })
   trimmed-of p d l m =
       record {
         pops = p;
         drops = d;
-        slow-is = l .is ∙ ap (λ A. through A (endAt flip ts gs k)) (sym (last-between (ofChain flip ts gs up) (x .upper .start) end (p .from)) ∙ ap lastOf (p .is));
-        fast-is = m .is ∙ ap (λ A. through A (endAt flip ts gs k)) (sym (head-between (ofChain flip ts es down) start (x .lower .end) (d .to)) ∙ ap headOf (d .is));
+        slow-is = l .is ∙ ap (λ A. through A (endAt flip ts gs k)) (sym (last-between (ofChain flip ts gs up) (upper .start) end (p .from)) ∙ ap lastOf (p .is));
+        fast-is = m .is ∙ ap (λ A. through A (endAt flip ts gs k)) (sym (head-between (ofChain flip ts es down) start (lower .end) (d .to)) ∙ ap headOf (d .is));
         slow-in = l .bounded;
         fast-in = m .bounded;
       }

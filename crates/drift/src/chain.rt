@@ -4,7 +4,7 @@ ghost use lib.ListN.{length};
 ghost use Rattle.drift_laws.specs.RangeEnds.{endAt};
 ghost use Rattle.drift_laws.specs.EndReads.{Values};
 ghost use Rattle.drift_laws.specs.ChainParts.{ofChain, PoppedTo, DroppedTo};
-ghost use Rattle.drift.specs.Polygons.{Shape, TrimmedAt};
+ghost use Rattle.drift.specs.Polygons.{TrimmedAt};
 use crate::points::joined_reaches;
 use crate::points::joining;
 use crate::values::Line;
@@ -41,7 +41,7 @@ fn pop_end(
     to: usize,
     k: u32,
 ) -> usize
-    requires { ⌜ (Values (now ends)) × (from < to) × (to ≤ length (now chain)) ⌝ }
+    requires { ⌜ (Values (now times) (now ends)) × (from < to) × (to ≤ length (now chain)) ⌝ }
     ensures { λ r. ⌜ PoppedTo (ofChain flip (now (times .entry)) (now (ends .entry)) (now (chain .entry))) (endAt flip (now (times .entry)) (now (ends .entry)) k) from to r ⌝ }
 {
     let mut m = to;
@@ -66,7 +66,7 @@ fn drop_head(
     to: usize,
     k: u32,
 ) -> usize
-    requires { ⌜ (Values (now ends)) × (Values (now tops)) × (from < to) × (to ≤ length (now chain)) ⌝ }
+    requires { ⌜ (Values (now times) (now ends)) × (Values (now times) (now tops)) × (from < to) × (to ≤ length (now chain)) ⌝ }
     ensures { λ r. ⌜ DroppedTo (ofChain flip (now (times .entry)) (now (ends .entry)) (now (chain .entry))) (endAt flip (now (times .entry)) (now (tops .entry)) k) from to r ⌝ }
 {
     let mut h = from;
@@ -88,14 +88,13 @@ pub fn trim(
     flip: bool,
     up: &[u32],
     down: &[u32],
-    x: Polygon,
+    upper: Part,
+    lower: Part,
     k: u32,
 ) -> Trimmed
-    requires { ⌜ (Values (now tops)) × (Values (now bottoms)) × (Shape x (length (now up)) (length (now down))) ⌝ }
-    ensures { λ r. ⌜ TrimmedAt flip (now (times .entry)) (now (tops .entry)) (now (bottoms .entry)) (now (up .entry)) (now (down .entry)) x k r ⌝ }
+    requires { ⌜ (Values (now times) (now tops)) × (Values (now times) (now bottoms)) × (upper .start < upper .end) × (upper .end ≤ length (now up)) × (lower .start < lower .end) × (lower .end ≤ length (now down)) ⌝ }
+    ensures { λ r. ⌜ TrimmedAt flip (now (times .entry)) (now (tops .entry)) (now (bottoms .entry)) (now (up .entry)) (now (down .entry)) upper lower k r ⌝ }
 {
-    let upper = x.upper;
-    let lower = x.lower;
     let a = upper.start;
     let b = upper.end;
     let c = lower.start;

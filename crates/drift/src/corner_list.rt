@@ -44,7 +44,7 @@ fn list_chain(
     ds: &mut [i64],
     at: usize,
 ) -> usize
-    requires { ⌜ (Values (now ends)) × (from < to) × (to ≤ length (now chain)) × (Rises (ofChain false (now times) (now ends) (now chain)) from to) × (RowRoom (at + (to - from - 1)) (now ps) (now qs) (now ds)) ⌝ }
+    requires { ⌜ (Values (now times) (now ends)) × (from < to) × (to ≤ length (now chain)) × (Rises (ofChain false (now times) (now ends) (now chain)) from to) × (RowRoom (at + (to - from - 1)) (now ps) (now qs) (now ds)) ⌝ }
     ensures { λ r. ⌜ ChainListed (ofChain false (now (times .entry)) (now (ends .entry)) (now (chain .entry))) from to (now (ps .entry)) (now (qs .entry)) (now (ds .entry)) at (now (ps .exit)) (now (qs .exit)) (now (ds .exit)) r ⌝ }
 {
     let mut j = from + 1;
@@ -70,7 +70,7 @@ pub fn list_corners(
     qs: &mut [i64],
     ds: &mut [i64],
 ) -> usize
-    requires { ⌜ (Values (now highs)) × (Values (now lows)) × (Shape x (length (now up)) (length (now down))) × (ProperCorners (now times) (now highs) (now lows) (now up) (now down) x) × (RowRoom (points x) (now ps) (now qs) (now ds)) ⌝ }
+    requires { ⌜ (Values (now times) (now highs)) × (Values (now times) (now lows)) × (Shape x (length (now up)) (length (now down))) × (ProperCorners (now times) (now highs) (now lows) (now up) (now down) x) × (RowRoom (points x) (now ps) (now qs) (now ds)) ⌝ }
     ensures { λ r. ⌜ CornersListed (now (times .entry)) (now (highs .entry)) (now (lows .entry)) (now (up .entry)) (now (down .entry)) x (now (ps .entry)) (now (qs .entry)) (now (ds .entry)) (now (ps .exit)) (now (qs .exit)) (now (ds .exit)) r ⌝ }
 {
     let slow = x.slow;

@@ -17,9 +17,12 @@ use crate::chain::Trimmed;
 use crate::chain::trim;
 use crate::points::above_end;
 use crate::points::has_width;
+use crate::points::height;
 use crate::points::joining;
 use crate::points::reaches_end;
 use crate::points::steeper;
+use crate::points::time_at;
+use crate::points::value_at;
 use crate::values::Line;
 
 // What is left of the polygon: the upper chain up to an end, the lower chain from its new start on, and the new fast line.
@@ -57,10 +60,12 @@ fn cut(
     x: Polygon,
     k: u32,
 ) -> Polygon
-    requires { ⌜ (Values (now tops)) × (Values (now bottoms)) × (Shape x k (length (now down))) × (k < length (now up)) ⌝ }
+    requires { ⌜ (Values (now times) (now tops)) × (Values (now times) (now bottoms)) × (Shape x k (length (now down))) × (k < length (now up)) ⌝ }
     ensures { λ r. ⌜ CutAt flip (now (times .entry)) (now (tops .entry)) (now (bottoms .entry)) (now (up .entry)) (now (down .entry)) x k (now (up .exit)) r ⌝ }
 {
-    let t = trim(times, tops, bottoms, flip, up, down, x, k);
+    let upper = x.upper;
+    let lower = x.lower;
+    let t = trim(times, tops, bottoms, flip, up, down, upper, lower, k);
     let end = t.end;
     let last = t.slow;
     let fast = t.fast;
@@ -97,13 +102,15 @@ fn cut_above(
     x: Polygon,
     k: u32,
 ) -> Polygon
-    requires { ⌜ (Values (now tops)) × (Values (now bottoms)) × (Shape x k (length (now down))) × (k < length (now up)) ⌝ }
+    requires { ⌜ (Values (now times) (now tops)) × (Values (now times) (now bottoms)) × (Shape x k (length (now down))) × (k < length (now up)) ⌝ }
     ensures { λ r. ⌜ AboveAt flip (now (times .entry)) (now (tops .entry)) (now (bottoms .entry)) (now (up .entry)) (now (down .entry)) x k (now (up .exit)) r ⌝ }
 {
     let slow = x.slow;
     let fast = x.fast;
-    if above_end(times, tops, flip, fast, k) {
-        if reaches_end(times, tops, flip, slow, k) {
+    let t = time_at(times, k);
+    let u = value_at(times, tops, flip, k);
+    if 0 < height(fast, t, u) {
+        if 0 <= height(slow, t, u) {
             alone(x, slow)
         } else {
             cut(times, tops, bottoms, flip, up, down, x, k)
@@ -154,7 +161,7 @@ fn cut_below(
     x: Polygon,
     k: u32,
 ) -> Polygon
-    requires { ⌜ (Values (now highs)) × (Values (now lows)) × (Shape x (length (now up)) k) × (k < length (now down)) ⌝ }
+    requires { ⌜ (Values (now times) (now highs)) × (Values (now times) (now lows)) × (Shape x (length (now up)) k) × (k < length (now down)) ⌝ }
     ensures { λ r. ⌜ BelowAt (now (times .entry)) (now (highs .entry)) (now (lows .entry)) (now (up .entry)) (now (down .entry)) x k (now (down .exit)) r ⌝ }
 {
     let m = mirrored(x);
@@ -185,7 +192,7 @@ fn cut_to_point(
     x: Polygon,
     k: u32,
 ) -> Polygon
-    requires { ⌜ (Values (now highs)) × (Values (now lows)) × (Shape x k k) × (k < length (now up)) × (k < length (now down)) × (getD (now lows) k (pos 0) ≡ getD (now highs) k (pos 0)) ⌝ }
+    requires { ⌜ (Values (now times) (now highs)) × (Values (now times) (now lows)) × (Shape x k k) × (k < length (now up)) × (k < length (now down)) × (getD (now lows) k (pos 0) ≡ getD (now highs) k (pos 0)) ⌝ }
     ensures { λ r. ⌜ PointAt (now (times .entry)) (now (highs .entry)) (now (lows .entry)) (now (up .entry)) (now (down .entry)) x k (now (up .exit)) (now (down .exit)) r ⌝ }
 {
     let slow = x.slow;
@@ -194,7 +201,9 @@ fn cut_to_point(
         return alone(x, slow);
     }
     if above_end(times, highs, false, fast, k) {
-        let t = trim(times, highs, lows, false, up, down, x, k);
+        let upper = x.upper;
+        let lower = x.lower;
+        let t = trim(times, highs, lows, false, up, down, upper, lower, k);
         let least = t.slow;
         let greatest = t.fast;
         up[0] = k;
@@ -217,10 +226,10 @@ pub fn join(
     x: Polygon,
     k: u32,
 ) -> Polygon
-    requires { ⌜ (Values (now highs)) × (Values (now lows)) × (Shape x k k) × (k < length (now up)) × (k < length (now down)) × (getD (now lows) k (pos 0) ≤ℤ getD (now highs) k (pos 0)) ⌝ }
+    requires { ⌜ (Values (now times) (now highs)) × (Values (now times) (now lows)) × (Shape x k k) × (k < length (now up)) × (k < length (now down)) × (getD (now lows) k (pos 0) ≤ℤ getD (now highs) k (pos 0)) ⌝ }
     ensures { λ r. ⌜ JoinedAt (now (times .entry)) (now (highs .entry)) (now (lows .entry)) (now (up .entry)) (now (down .entry)) x k (now (up .exit)) (now (down .exit)) r ⌝ }
 {
-    if has_width(highs, lows, k) {
+    if has_width(times, highs, lows, k) {
         let y = cut_above(times, highs, lows, false, up, down, x, k);
         cut_below(times, highs, lows, up, down, y, k)
     } else {
@@ -238,13 +247,13 @@ pub fn begin(
     i: u32,
     k: u32,
 ) -> Polygon
-    requires { ⌜ (Values (now highs)) × (Values (now lows)) × (1 ≤ k) × (1 < length (now up)) × (1 < length (now down)) × (getD (now lows) i (pos 0) ≤ℤ getD (now highs) i (pos 0)) × (getD (now lows) k (pos 0) ≤ℤ getD (now highs) k (pos 0)) ⌝ }
+    requires { ⌜ (Values (now times) (now highs)) × (Values (now times) (now lows)) × (1 ≤ k) × (1 < length (now up)) × (1 < length (now down)) × (getD (now lows) i (pos 0) ≤ℤ getD (now highs) i (pos 0)) × (getD (now lows) k (pos 0) ≤ℤ getD (now highs) k (pos 0)) ⌝ }
     ensures { λ r. ⌜ StartedAt (now (times .entry)) (now (highs .entry)) (now (lows .entry)) i k (now (up .exit)) (now (down .exit)) r ⌝ }
 {
     let slow = joining(times, highs, lows, false, i, k);
     let fast = joining(times, lows, highs, false, i, k);
-    if has_width(highs, lows, i) {
-        if has_width(highs, lows, k) {
+    if has_width(times, highs, lows, i) {
+        if has_width(times, highs, lows, k) {
             up[0] = i;
             up[1] = k;
             down[0] = i;

@@ -14,20 +14,20 @@ ghost use Rattle.drift.specs.LinesOfEnds.{LineThrough, LineJoining, poin
 use crate::values::Line;
 
 // The time of range k, and 0 past the end.
-fn time_at(times: &[u32], k: u32) -> i64
+pub fn time_at(times: &[u32], k: u32) -> i64
     ensures { λ r. ⌜ TimeIs (now (times .entry)) k r ⌝ }
 {
     let i = k as usize;
     if i < times.len() { times[i] as i64 } else { 0 }
 }
 
-// An end of range k, negated in the mirror, and 0 past the end.
-fn value_at(ends: &[i32], flip: bool, k: u32) -> i64
-    requires { ⌜ Values (now ends) ⌝ }
+// An end of range k, negated in the mirror, and 0 past the end. There are as many ends as times: tested against these, one test serves a time and an end.
+pub fn value_at(times: &[u32], ends: &[i32], flip: bool, k: u32) -> i64
+    requires { ⌜ Values (now times) (now ends) ⌝ }
     ensures { λ r. ⌜ ValueIs flip (now (ends .entry)) k r ⌝ }
 {
     let i = k as usize;
-    if i < ends.len() {
+    if i < times.len() {
         let u = ends[i] as i64;
         if flip { 0 - u } else { u }
     } else {
@@ -48,7 +48,7 @@ fn through(t: i64, u: i64, s: i64, v: i64) -> Line
 }
 
 // Above 0 where the line is above (t, u), and 0 where it touches it.
-fn height(l: Line, t: i64, u: i64) -> i64
+pub fn height(l: Line, t: i64, u: i64) -> i64
     requires { ⌜ (Bounded l) × (Clock t) × (Within mostValue u) ⌝ }
     ensures { λ r. ⌜ r ≡ gap (lineOf l) (pointOf t u) ⌝ }
 {
@@ -65,34 +65,34 @@ pub fn steeper(v: Line, w: Line) -> bool
 
 // The line through an end of range a and an end of range b.
 pub fn joining(times: &[u32], ends: &[i32], tops: &[i32], flip: bool, a: u32, b: u32) -> Line
-    requires { ⌜ (Values (now ends)) × (Values (now tops)) ⌝ }
+    requires { ⌜ (Values (now times) (now ends)) × (Values (now times) (now tops)) ⌝ }
     ensures { λ r. ⌜ LineJoining flip (now (times .entry)) (now (ends .entry)) (now (tops .entry)) a b r ⌝ }
 {
     let t = time_at(times, a);
-    let u = value_at(ends, flip, a);
+    let u = value_at(times, ends, flip, a);
     let s = time_at(times, b);
-    let v = value_at(tops, flip, b);
+    let v = value_at(times, tops, flip, b);
     through(t, u, s, v)
 }
 
 // Whether the line is above an end of range k.
 pub fn above_end(times: &[u32], ends: &[i32], flip: bool, l: Line, k: u32) -> bool
-    requires { ⌜ (Values (now ends)) × (Bounded l) ⌝ }
+    requires { ⌜ (Values (now times) (now ends)) × (Bounded l) ⌝ }
     ensures { λ r. ⌜ r ≡ ltZ (pos 0) (gap (lineOf l) (endAt flip (now (times .entry)) (now (ends .entry)) k)) ⌝ }
 {
     let t = time_at(times, k);
-    let u = value_at(ends, flip, k);
+    let u = value_at(times, ends, flip, k);
     let g = height(l, t, u);
     0 < g
 }
 
 // Whether the line is at or above an end of range k.
 pub fn reaches_end(times: &[u32], ends: &[i32], flip: bool, l: Line, k: u32) -> bool
-    requires { ⌜ (Values (now ends)) × (Bounded l) ⌝ }
+    requires { ⌜ (Values (now times) (now ends)) × (Bounded l) ⌝ }
     ensures { λ r. ⌜ r ≡ leZ (pos 0) (gap (lineOf l) (endAt flip (now (times .entry)) (now (ends .entry)) k)) ⌝ }
 {
     let t = time_at(times, k);
-    let u = value_at(ends, flip, k);
+    let u = value_at(times, ends, flip, k);
     let g = height(l, t, u);
     0 <= g
 }
@@ -107,7 +107,7 @@ pub fn joined_reaches(
     b: u32,
     k: u32,
 ) -> bool
-    requires { ⌜ (Values (now ends)) × (Values (now tops)) ⌝ }
+    requires { ⌜ (Values (now times) (now ends)) × (Values (now times) (now tops)) ⌝ }
     ensures { λ r. ⌜ r ≡ leZ (pos 0) (gap (throughPoints (endAt flip (now (times .entry)) (now (ends .entry)) a) (endAt flip (now (times .entry)) (now (ends .entry)) b)) (endAt flip (now (times .entry)) (now (tops .entry)) k)) ⌝ }
 {
     let l = joining(times, ends, ends, flip, a, b);
@@ -115,11 +115,11 @@ pub fn joined_reaches(
 }
 
 // Whether the low of range k is below its high.
-pub fn has_width(highs: &[i32], lows: &[i32], k: u32) -> bool
-    requires { ⌜ (Values (now highs)) × (Values (now lows)) ⌝ }
+pub fn has_width(times: &[u32], highs: &[i32], lows: &[i32], k: u32) -> bool
+    requires { ⌜ (Values (now times) (now highs)) × (Values (now times) (now lows)) ⌝ }
     ensures { λ r. ⌜ r ≡ ltZ (getD (now (lows .entry)) k (pos 0)) (getD (now (highs .entry)) k (pos 0)) ⌝ }
 {
-    let a = value_at(lows, false, k);
-    let b = value_at(highs, false, k);
+    let a = value_at(times, lows, false, k);
+    let b = value_at(times, highs, false, k);
     a < b
 }

@@ -22,7 +22,7 @@ pub struct Reach {
 
 // Whether range k has no line with the run that has these two lines: slow is above it, or fast is below it.
 fn closes(times: &[u32], highs: &[i32], lows: &[i32], slow: Line, fast: Line, k: u32) -> bool
-    requires { ⌜ (Values (now highs)) × (Values (now lows)) × (Bounded slow) × (Bounded fast) ⌝ }
+    requires { ⌜ (Values (now times) (now highs)) × (Values (now times) (now lows)) × (Bounded slow) × (Bounded fast) ⌝ }
     ensures { λ r. ⌜ Closing (lent (now (times .entry)) (now (highs .entry)) (now (lows .entry))) slow fast k r ⌝ }
 {
     if above_end(times, highs, false, slow, k) {

@@ -1,7 +1,7 @@
 -- Times and ends as i64 code reads them out of u32 and i32 slices: what is read is the number that stands there, and within its span.
 --
 --     Clock t                 t is a time: from 0 to 4,294,967,295
---     Values es               every entry is within document 01's span of values; past the end an entry counts as 0
+--     Values ts es            there are as many as times, and every entry is within document 01's span of values; past the end an entry counts as 0
 --     accepted-highs, accepted-lows   the highs and lows of accepted lists are so
 --     TimeIs ts k r           r is the k-th time; time-read, time-past: as it is read, and past the end
 --     ValueIs flip es k r     r is the k-th value, negated where flip holds; value-mirrored, value-read, value-past: the same of values
@@ -36,7 +36,8 @@ pub record Clock (t : ℤ) : Type 0 where
   pub since : pos 0 ≤ℤ t
   pub until : t ≤ℤ pos mostTime
 
-pub record Values (es : List ℤ) : Type 0 where
+pub record Values (ts : List ℕ) (es : List ℤ) : Type 0 where
+  pub long : length es ≡ length ts
   pub each : (k : ℕ) → Within mostValue (getD es k (pos 0))
 
 pub record TimeIs (ts : List ℕ) (k : ℕ) (r : ℤ) : Type 0 where
@@ -47,11 +48,11 @@ pub record ValueIs (flip : Bool) (es : List ℤ) (k : ℕ) (r : ℤ) : Type 0 wh
   pub is : r ≡ inMirror flip (getD es k (pos 0))
   pub in-span : Within mostValue r
 
-pub accepted-highs : {ls : Lists} → AcceptedLists ls → Values (ls .highs)
-accepted-highs a = record { each = λ k. a .proper k .high-within }
+pub accepted-highs : {ls : Lists} → AcceptedLists ls → Values (ls .times) (ls .highs)
+accepted-highs a = record { long = a .same .highs-long; each = λ k. a .proper k .high-within }
 
-pub accepted-lows : {ls : Lists} → AcceptedLists ls → Values (ls .lows)
-accepted-lows a = record { each = λ k. a .proper k .low-within }
+pub accepted-lows : {ls : Lists} → AcceptedLists ls → Values (ls .times) (ls .lows)
+accepted-lows a = record { long = a .same .lows-long; each = λ k. a .proper k .low-within }
 
 -- ---- bounds
 pub clock-in : {t : ℤ} → Clock t → Within mostTime t
@@ -89,19 +90,19 @@ mirror-in : (flip : Bool) {u : ℤ} → Within mostValue u → Within mostValue 
 mirror-in true h = in-neg h
 mirror-in false h = h
 
-value-of : {flip : Bool} {es : List ℤ} {k : ℕ} {r : ℤ} → Values es → r ≡ inMirror flip (getD es k (pos 0)) → ValueIs flip es k r
-value-of {flip} {es} {k} {r} v e = record { is = e; in-span = subst (Within mostValue) (sym e) (mirror-in flip (v .each k)) }
+value-of : {flip : Bool} {ts : List ℕ} {es : List ℤ} {k : ℕ} {r : ℤ} → Values ts es → r ≡ inMirror flip (getD es k (pos 0)) → ValueIs flip es k r
+value-of {flip} {ts} {es} {k} {r} v e = record { is = e; in-span = subst (Within mostValue) (sym e) (mirror-in flip (v .each k)) }
 
-module _ (es : List ℤ) (k : ℕ) (v : Values es) where
+module _ {ts : List ℕ} (es : List ℤ) (k : ℕ) (v : Values ts es) where
   pub value-mirrored : {flip : Bool} → flip ≡ true → ValueIs flip es k (toZ w64 (ofZ w64 (pos 0 -ℤ toZ w64 (ofZ w64 (toZ w32 (ofZ w32 (getD es k (pos 0))))))))
   value-mirrored e = value-of v (negated-is (v .each k) ∙ ap (λ f. inMirror f (getD es k (pos 0))) (sym e))
 
   pub value-read : {flip : Bool} → flip ≡ false → ValueIs flip es k (toZ w64 (ofZ w64 (toZ w32 (ofZ w32 (getD es k (pos 0))))))
   value-read e = value-of v (plain-is (v .each k) ∙ ap (λ f. inMirror f (getD es k (pos 0))) (sym e))
 
-  pub value-past : (flip : Bool) → length es ≤ k → ValueIs flip es k (pos 0)
-  value-past true h = value-of v (sym (ap negℤ (List·getD-eq-default es (pos 0) h)))
-  value-past false h = value-of v (sym (List·getD-eq-default es (pos 0) h))
+  pub value-past : (flip : Bool) → length ts ≤ k → ValueIs flip es k (pos 0)
+  value-past true h = value-of v (sym (ap negℤ (List·getD-eq-default es (pos 0) (subst (λ n. n ≤ k) (sym (v .long)) h))))
+  value-past false h = value-of v (sym (List·getD-eq-default es (pos 0) (subst (λ n. n ≤ k) (sym (v .long)) h)))
 
 -- ---- a time as it is read
 pub time-read : (ts : List ℕ) (k : ℕ) → getD ts k 0 < 4294967296 → TimeIs ts k (toZ w64 (getD ts k 0))

@@ -24,7 +24,7 @@ joining-requires : tie.Need-joining-requires
 joining-requires c κs = search needs
 
 mul-joining-2 : tie.Need-mul-joining-2
-mul-joining-2 c = omega (arith, c .before .before .drop-head .ensures .to, c .before .before .before .before .before .before .before .before .before .pre .2 .down-to, c .before .before .before .before .before .before .before .before .before .good)
+mul-joining-2 c = omega (arith, c .before .before .drop-head .ensures .to, c .before .before .before .before .before .before .before .pre .5, c .before .before .before .before .before .before .before .good)
 
 shared-slice-read-joining-2 : tie.Need-shared-slice-read-joining-2
 shared-slice-read-joining-2 c = search needs

@@ -29,13 +29,13 @@ same-length : tie.Need-same-length
 same-length c = search needs
 
 returns : tie.Need-returns
-returns c = cut-push (c .before .before .before .before .before .before .before .before .before .before .pre .2) (c .before .before .before .before .before .trim .ensures) (c .before .before .before .before .before .before .before .before .before .before .pre .3) (c .before .before .steeper .ensures) (c .before .if1 .taken) (c .shortened .ensures)
+returns c = cut-push (c .before .before .before .before .before .before .before .before .before .before .before .before .pre .2) (c .before .before .before .before .before .trim .ensures) (c .before .before .before .before .before .before .before .before .before .before .before .before .pre .3) (c .before .before .steeper .ensures) (c .before .if1 .taken) (c .shortened .ensures)
 
 same-length-2 : tie.Need-same-length-2
 same-length-2 c = search needs
 
 returns-2 : tie.Need-returns-2
-returns-2 c = cut-keep (c .before .before .before .before .before .before .before .before .before .before .pre .2) (c .before .before .before .before .before .trim .ensures) (c .before .before .steeper .ensures) (c .before .if1 .left) (c .shortened2 .ensures)
+returns-2 c = cut-keep (c .before .before .before .before .before .before .before .before .before .before .before .before .pre .2) (c .before .before .before .before .before .trim .ensures) (c .before .before .steeper .ensures) (c .before .if1 .left) (c .shortened2 .ensures)
 
 pub cut-spec : {M : Type 1} → statement M
 cut-spec =

@@ -21,10 +21,10 @@ trim-requires : tie.Need-trim-requires
 trim-requires c κs = search needs
 
 slice-write-up : tie.Need-slice-write-up
-slice-write-up c = search needs
+slice-write-up c = omega (arith, c .before .before .before .before .before .before .before .before .before .before .before .before .before .before .before .before .pre .3)
 
 slice-write-down : tie.Need-slice-write-down
-slice-write-down c = search needs
+slice-write-down c = omega (arith, c .before .before .before .before .before .before .before .before .before .before .before .before .before .before .before .before .pre .4)
 
 first-entries-requires : tie.Need-first-entries-requires
 first-entries-requires c κs = search needs
@@ -37,8 +37,8 @@ same-length-2 c = search needs
 
 returns-2 : tie.Need-returns-2
 returns-2 c =
-    let P = c .before .before .before .before .before .before .before .before .before .before .before .before .before .before .before .pre in
-    point-cut (P .2) (c .before .before .before .before .before .before .before .before .before .reaches-end .ensures) (c .before .before .before .before .before .before .before .before .if1 .left) (c .before .before .before .before .before .before .before .above-end .ensures) (c .before .before .before .before .before .before .if2 .taken) (P .5) (omega (arith, P .3)) (omega (arith, P .4)) (c .before .before .before .trim .ensures) (c .first-entries .ensures)
+    let P = c .before .before .before .before .before .before .before .before .before .before .before .before .before .before .before .before .before .pre in
+    point-cut (P .2) (c .before .before .before .before .before .before .before .before .before .before .before .reaches-end .ensures) (c .before .before .before .before .before .before .before .before .before .before .if1 .left) (c .before .before .before .before .before .before .before .before .before .above-end .ensures) (c .before .before .before .before .before .before .before .before .if2 .taken) (P .5) (omega (arith, P .3)) (omega (arith, P .4)) (c .before .before .before .trim .ensures) (c .first-entries .ensures)
 
 reaches-end-requires-2 : tie.Need-reaches-end-requires-2
 reaches-end-requires-2 c κs = search needs

@@ -1,6 +1,8 @@
 -- `drift::cut::join` meets its contract. Assumes nothing.
+use native.Mathlib.Omega.{arith}
 use borrow.Author.Needs.{needs}
 use Rattle.drift_laws.specs.TestedSigns.{equal-of}
+use Rattle.drift.specs.Polygons.{shape-more}
 use Rattle.drift.specs.Joins.{join-cuts, join-point}
 use Rattle.drift.proofs.cut.join.Statement.{statement}
 use Rattle.drift.proofs.cut.join.Tie as tie
@@ -12,7 +14,10 @@ cut-above-requires : tie.Need-cut-above-requires
 cut-above-requires c κs = search needs
 
 cut-below-requires : tie.Need-cut-below-requires
-cut-below-requires c κs = search needs
+cut-below-requires c κs =
+    let P = c .before .before .before .before .before .before .before .before .before .before .before .before .pre in
+    let A = c .before .before .before .before .cut-above in
+    (P .0, P .1, shape-more (A .ensures .shape) (omega (arith, P .3, A .kept .1 .1 .1 .1 .0)) (P .2 .down-to), P .4)
 
 cut-to-point-requires : tie.Need-cut-to-point-requires
 cut-to-point-requires c κs =
