@@ -8,6 +8,7 @@
 --     points x                               how many points the two chains have
 --     Listed ls old.. new.. r                the r lines ls stand first, in lowest terms, and past them all is as before
 --     CornersListed ts gs es up down x ..    so do the listed corners of the polygon that x stands for
+--     room-slow, room-upper, room-fast, room-lower       there is a place for each corner among as many places as points
 --     slow-small, fast-small, upper-rises, lower-rises   what storing these corners asks
 --     corner-one, corner-all                 slow and fast have one slope, or not
 --
@@ -88,6 +89,20 @@ pub record Listed (ls : List Line01) (ps qs ds ps′ qs′ ds′ : List ℤ) (r 
 
 abbrev pub CornersListed : List ℕ → List ℤ → List ℤ → List ℕ → List ℕ → Polygon → List ℤ → List ℤ → List ℤ → List ℤ → List ℤ → List ℤ → ℕ → Type 0
 CornersListed ts gs es up down x ps qs ds ps′ qs′ ds′ r = Listed (listOf (polygonOf false ts gs es up down x)) ps qs ds ps′ qs′ ds′ r
+
+module _ {x : Polygon} {m n : ℕ} (s : Shape x m n) where
+  pub room-slow : 1 ≤ points x
+  room-slow = omega (arith, s .up)
+
+  pub room-upper : 1 + (x .upper .end - x .upper .start - 1) ≤ points x
+  room-upper = omega (arith, s .up, s .down)
+
+  module _ {k : ℕ} (q : k ≡ 1 + (x .upper .end - x .upper .start - 1)) where
+    pub room-fast : k + 1 ≤ points x
+    room-fast = omega (arith, q, s .up, s .down)
+
+    pub room-lower : k + 1 + (x .lower .end - x .lower .start - 1) ≤ points x
+    room-lower = omega (arith, q, s .up, s .down)
 
 module _ {ts : List ℕ} {gs es : List ℤ} {up down : List ℕ} {x : Polygon} {m n : ℕ} (s : Shape x m n) (h : ProperCorners ts gs es up down x) where
   pub slow-small : Small (x .slow)

@@ -2,14 +2,15 @@
 --
 --     polygonOf flip ts gs es up down x    the chains that x marks in the slices up and down, and its two lines; gs are the highs, es the lows, and in the mirror the other way round
 --     Shape x m n                          each chain has a point, the upper one ends by m and the lower one by n, and both lines are bounded
---     shape-more                           the same for larger m and n
+--     shape-more, shape-up, shape-down     the same for larger m and n, for larger m, and for larger n
+--     shape-kept                           the same after range k joined, where slices that have room for k are as long as before
 --     TrimmedAt, trimmed-of                what shortening at range k answers, and how it is known
 --
 -- Assumes nothing.
 use mathlib.Core.Path.{_≡_, sym, _∙_, ap}
 use mathlib.Core.Bool.{Bool}
 use mathlib.Core.List.{List}
-use Prim.Native.Nat.{ℕ, _-_, _<_, _≤_}
+use Prim.Native.Nat.{ℕ, _+_, _-_, _<_, _≤_}
 use native.Mathlib.Omega.{arith}
 use lib.ListN.{getD}
 use lib.IntN.{ℤ}
@@ -49,6 +50,15 @@ shape-more s h k =
     let a = s .up-to in
     let b = s .down-to in
     record { up = s .up; up-to = omega arith; down = s .down; down-to = omega arith; slow-in = s .slow-in; fast-in = s .fast-in }
+
+pub shape-up : {x : Polygon} {m n m′ : ℕ} → Shape x m n → m < m′ → Shape x m′ n
+shape-up s h = let a = s .up-to in record { up = s .up; up-to = omega arith; down = s .down; down-to = s .down-to; slow-in = s .slow-in; fast-in = s .fast-in }
+
+pub shape-down : {x : Polygon} {m n n′ : ℕ} → Shape x m n → n < n′ → Shape x m n′
+shape-down s h = let b = s .down-to in record { up = s .up; up-to = s .up-to; down = s .down; down-to = omega arith; slow-in = s .slow-in; fast-in = s .fast-in }
+
+pub shape-kept : {x : Polygon} {k e m m′ n : ℕ} → Shape x (k + 1) e → k < m → m′ ≡ m → e ≤ n → Shape x m′ n
+shape-kept s h q l = shape-more s (omega arith) l
 
 -- ---- shortened at range k
 pub record TrimmedAt (flip : Bool) (ts : List ℕ) (gs es : List ℤ) (up down : List ℕ) (upper lower : Part) (k : ℕ) (r : Trimmed) : Type 0 where

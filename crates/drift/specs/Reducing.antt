@@ -1,23 +1,25 @@
 -- Dividing a line's numbers by their common divisor in i64: nothing wraps, and the line stays within its bounds.
 --
 --     DivisorOf l n       n is the common divisor of the line's numbers
+--     divisor-of          so is what Euclid's rule gives of their absolute values, as they are read
 --     divisor-in          it is within the bound of d
 --     dividedBy n x       x / n as it is computed
 --     divided-fits        what a division by it asks
 --     reduced-by          the line of the three quotients is the line in lowest terms
 --
 -- Assumes nothing.
-use mathlib.Core.Path.{_≡_, ap, _∙_}
+use mathlib.Core.Path.{_≡_, ap, ap₂, _∙_}
 use Prim.Native.Nat.{ℕ, _^_, _<_}
 use native.Mathlib.Omega.{arith}
 use lib.Dec.{T, ltb}
-use lib.IntN.{ℤ, pos}
+use lib.IntN.{ℤ, pos, natAbs}
 use lib.Signed.{quotZ}
 use mir.Syntax.{w64}
 use mir.Val.{SFits, hbits, toZ}
 use mir.Facts.{toZ-pos}
 use Rattle.integers.specs.Bounds.{Within, fits}
 use Rattle.integers.specs.Division.{in-quot}
+use Rattle.integers.specs.Gcd.{gcd}
 use Rattle.integers.specs.LowestTerms.{commonDivisor, commonDivisor-above-0, commonDivisor-le, divided-lowest}
 use Rattle.definitions.specs.Spans.{mostTime}
 use Rattle.definitions.specs.Corners.{reduced}
@@ -27,6 +29,15 @@ use Rattle.drift.specs.Small.{Small, Reduced}
 
 pub record DivisorOf (l : Line) (n : ℕ) : Type 0 where
   pub is : n ≡ commonDivisor (l .p) (l .q) (l .d)
+
+pub divisor-of : {l : Line} {a b e g n : ℕ} → Small l → a ≡ natAbs (as-i64 (l .p)) → b ≡ natAbs (as-i64 (l .q)) → g ≡ gcd a b → e ≡ natAbs (as-i64 (l .d)) → n ≡ gcd g e → DivisorOf l n
+unfolding commonDivisor
+divisor-of s p q r d h =
+    record {
+      is =
+          h
+          ∙ ap₂ gcd (r ∙ ap₂ gcd (p ∙ ap natAbs (read-back w64 (s .p-in) tt)) (q ∙ ap natAbs (read-back w64 (s .q-in) tt))) (d ∙ ap natAbs (read-back w64 (s .d-in) tt));
+    }
 
 -- x / n as it is computed
 abbrev pub dividedBy : ℕ → ℤ → ℤ

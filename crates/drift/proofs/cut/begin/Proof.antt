@@ -5,16 +5,16 @@ use Rattle.drift.proofs.cut.begin.Statement.{statement}
 use Rattle.drift.proofs.cut.begin.Tie as tie
 
 joining-requires : tie.Need-joining-requires
-joining-requires c κs = search needs
+joining-requires c κs = let P = c .before .before .before .pre in (P .0, P .1)
 
 joining-requires-2 : tie.Need-joining-requires-2
-joining-requires-2 c κs = search needs
+joining-requires-2 c κs = let P = c .before .before .before .before .pre in (P .1, P .0)
 
 has-width-requires : tie.Need-has-width-requires
-has-width-requires c κs = search needs
+has-width-requires c κs = let P = c .before .before .before .before .before .pre in (P .0, P .1)
 
 has-width-requires-2 : tie.Need-has-width-requires-2
-has-width-requires-2 c κs = search needs
+has-width-requires-2 c κs = let P = c .before .before .before .before .before .before .before .pre in (P .0, P .1)
 
 slice-write-up : tie.Need-slice-write-up
 slice-write-up c = search needs
@@ -29,7 +29,7 @@ slice-write-down-2 : tie.Need-slice-write-down-2
 slice-write-down-2 c = search needs
 
 first-entries-requires : tie.Need-first-entries-requires
-first-entries-requires c κs = search needs
+first-entries-requires c κs = tt
 
 slice-write-up-3 : tie.Need-slice-write-up-3
 slice-write-up-3 c = search needs
@@ -38,7 +38,7 @@ slice-write-down-3 : tie.Need-slice-write-down-3
 slice-write-down-3 c = search needs
 
 first-entries-requires-2 : tie.Need-first-entries-requires-2
-first-entries-requires-2 c κs = search needs
+first-entries-requires-2 c κs = tt
 
 slice-write-up-4 : tie.Need-slice-write-up-4
 slice-write-up-4 c = search needs
@@ -47,7 +47,7 @@ slice-write-down-4 : tie.Need-slice-write-down-4
 slice-write-down-4 c = search needs
 
 first-entries-requires-3 : tie.Need-first-entries-requires-3
-first-entries-requires-3 c κs = search needs
+first-entries-requires-3 c κs = tt
 
 same-length : tie.Need-same-length
 same-length c = search needs

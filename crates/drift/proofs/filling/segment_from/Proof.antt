@@ -2,6 +2,7 @@
 -- Assumes nothing.
 use mathlib.Core.Path.{_≡_, sym, ap, _∙_, subst}
 use Prim.Native.Nat.{ℕ, _+_, _-_, _≤_}
+use native.Mathlib.Nat.{le-refl}
 use native.Mathlib.Omega.{arith}
 use borrow.Author.Needs.{needs}
 use lib.IntN.{ℤ}
@@ -30,13 +31,13 @@ cast-begin : tie.Need-cast-begin
 cast-begin c = search needs
 
 run-from-requires : tie.Need-run-from-requires
-run-from-requires c κs = search needs
+run-from-requires c κs = let P = c .before .before .before .before .before .pre in (P .tried .lists-accepted, P .inside, le-refl _, P .chains .up-room, P .chains .down-room)
 
 mul-first-time : tie.Need-mul-first-time
 mul-first-time c = search needs
 
 shared-slice-read-first-time : tie.Need-shared-slice-read-first-time
-shared-slice-read-first-time c = search needs
+shared-slice-read-first-time c = c .before .before .before .before .before .before .before .before .before .before .before .pre .inside
 
 cast-last-time : tie.Need-cast-last-time
 cast-last-time c = search needs
@@ -54,10 +55,10 @@ sub-count : tie.Need-sub-count
 sub-count c = search needs
 
 same-length : tie.Need-same-length
-same-length c = search needs
+same-length c = c .before .before .before .before .before .before .before .run-from .kept .1 .1 .1 .0
 
 same-length-2 : tie.Need-same-length-2
-same-length-2 c = search needs
+same-length-2 c = c .before .before .before .before .before .before .before .run-from .kept .1 .1 .1 .1 .0
 
 -- ---- where the run is known
 
@@ -92,10 +93,10 @@ outlook-of-requires c κs =
     (z .slow-small, z .fast-small, level-in (entry r))
 
 same-length-3 : tie.Need-same-length-3
-same-length-3 c = search needs
+same-length-3 c = c .before .before .before .before .before .before .before .before .before .before .before .run-from .kept .1 .1 .1 .0
 
 same-length-4 : tie.Need-same-length-4
-same-length-4 c = search needs
+same-length-4 c = c .before .before .before .before .before .before .before .before .before .before .before .run-from .kept .1 .1 .1 .1 .0
 
 returns-2 : tie.Need-returns-2
 unfolding segmentOf

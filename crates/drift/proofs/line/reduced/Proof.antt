@@ -1,11 +1,9 @@
 -- `drift::line::reduced` meets its contract: what it divides by is the common divisor of p, q and d, which is above 0 and at most d. Assumes nothing.
 use mir.Syntax.{w64}
-use borrow.Author.Needs.{needs}
 use Rattle.integers.specs.Bounds.{fits, in-wide}
-use Rattle.integers.specs.LowestTerms.{commonDivisor}
-use Rattle.drift.specs.Signed.{read-back, read-in}
+use Rattle.drift.specs.Signed.{read-in}
 use Rattle.drift.specs.Small.{Small}
-use Rattle.drift.specs.Reducing.{DivisorOf, divisor-in, divided-fits, reduced-by}
+use Rattle.drift.specs.Reducing.{DivisorOf, divisor-of, divisor-in, divided-fits, reduced-by}
 use Rattle.drift.proofs.line.reduced.Statement.{statement}
 use Rattle.drift.proofs.line.reduced.Tie as tie
 
@@ -16,21 +14,20 @@ size-requires-2 : tie.Need-size-requires-2
 size-requires-2 c κs = in-wide (read-in w64 (c .before .before .before .pre .q-in) tt) tt
 
 gcd-requires : tie.Need-gcd-requires
-gcd-requires c κs = search needs
+gcd-requires c κs = tt
 
 size-requires-3 : tie.Need-size-requires-3
 size-requires-3 c κs = in-wide (read-in w64 (c .before .before .before .before .before .before .pre .d-in) tt) tt
 
 gcd-requires-2 : tie.Need-gcd-requires-2
-gcd-requires-2 c κs = search needs
+gcd-requires-2 c κs = tt
 
 -- the line that is passed is small, and what is divided by is its divisor
 small : (c : tie.After-gcd2) → Small (c .before .before .before .before .before .before .before .before .args .l)
 small c = c .before .before .before .before .before .before .before .before .pre
 
 divisor : (c : tie.After-gcd2) → DivisorOf (c .before .before .before .before .before .before .before .before .args .l) (c .gcd2 .result)
-unfolding commonDivisor
-divisor c = record { is = cc (read-back w64 (small c .p-in) tt, read-back w64 (small c .q-in) tt, read-back w64 (small c .d-in) tt) }
+divisor c = divisor-of (small c) (c .before .before .before .before .before .before .size .ensures) (c .before .before .before .before .size2 .ensures) (c .before .before .before .gcd .ensures) (c .before .size3 .ensures) (c .gcd2 .ensures)
 
 cast-g : tie.Need-cast-g
 cast-g c = fits (divisor-in (small c) (divisor c)) tt
