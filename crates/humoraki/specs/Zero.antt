@@ -1,7 +1,7 @@
 -- The number that the library gives is 0 exactly where the call is accepted: no refusal has the number 0.
 --
 --     Accepted answer                                    the answer is accepted, with some result
---     read-zero, write-zero, segment-zero, corners-zero  of each call
+--     read-zero, write-zero, segment-zero, corners-zero, report-zero   of each call
 --
 -- Assumes nothing.
 use Prim.Native.Nat.{ℕ, _<_}
@@ -16,12 +16,13 @@ use Rattle.definitions.specs.Ranges.{Lists, rangesOf}
 use Rattle.definitions.specs.Answers.{Answer, refused, accepted, _>>=_, Row, _if_, firstRow, refusal}
 use Rattle.definitions.specs.Trial.{rangesRows, listRows, writeRows, segmentRows, cornerRows}
 use Rattle.definitions.specs.Calls.{writeCall, segmentCall, cornersCall}
+use Rattle.definitions.specs.Report.{reportCall}
 use Rattle.trial_laws.specs.Rows.{Numbered, Numbered-append, refused-not-accepted}
 use Rattle.trial_laws.specs.CallLaws.{refused-is, bind-refused}
 use Rattle.trial_laws.specs.ListTrial.{countRows, ranges-numbered}
 use Rattle.trace_laws.specs.TraceLaws.{read-number}
 use Rattle.trace.specs.Promises.{writeInto}
-use Rattle.humoraki.specs.Promises.{ReadLent, readAnswer, AfterRead, WriteLent, AfterWrite, SegmentLent, segmentAnswer, AfterSegment, CornersLent, cornersAnswer, AfterCorners}
+use Rattle.humoraki.specs.Promises.{ReadLent, readAnswer, AfterRead, WriteLent, AfterWrite, SegmentLent, segmentAnswer, AfterSegment, CornersLent, cornersAnswer, AfterCorners, ReportLent, reportAnswer, AfterReport}
 
 abbrev pub Accepted : {A : Type 0} → Answer A → Type 0
 Accepted {A} answer = (a : A) × (answer ≡ accepted a)
@@ -61,3 +62,7 @@ pub corners-zero : {k : ℕ} {ls : Lists} {old new : CornersLent} {r : ℕ} → 
 unfolding cornersCall cornerRows listRows
 corners-zero {k} {ls} {old} h =
     zero-exactly (cornersAnswer k ls old) (call-above _ _ (omega arith, (omega arith, (omega arith, Numbered-append (rangesRows none (rangesOf ls)) (countRows k ls) (ranges-numbered none (rangesOf ls)) (omega arith, tt))))) (h .counted .number-is)
+
+pub report-zero : {file : List ℕ} {old new : ReportLent} {r : ℕ} → AfterReport file old new r → (r ≡ 0) ↔ Accepted (reportAnswer file old)
+unfolding reportCall
+report-zero {file} {old} h = zero-exactly (reportAnswer file old) (call-above _ _ (omega arith, tt)) (h .counted .number-is)
