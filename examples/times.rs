@@ -1,6 +1,6 @@
 //! Prints the two times of a trace file's last segment:
 //!
-//!     rustc -O examples/times.rs -L target/staticlib -l static=humoraki -o target/times
+//!     rustc -O examples/times.rs -L target/staticlib -o target/times
 //!     target/times samples/example.trace
 
 use std::fs::File;

@@ -1,14 +1,22 @@
 //! Humoraki for Rust: safe functions over the C interface that `humoraki.h` describes.
 //!
-//! Take this file into a program as a module, and link with libhumoraki.a, which
-//! `rt staticlib humoraki` writes to target/staticlib/. The functions here only lend memory of the
-//! least length and hand back what was filled. What the header asks of a caller holds of every
-//! slice in Rust, so nothing is left to keep.
+//! Take this file into a program as a module, with `humoraki_declarations.rs` beside it, and tell
+//! the compiler where libhumoraki.a is, which `rt staticlib humoraki` writes to target/staticlib/.
+//! The functions here only lend memory of the least length and hand back what was filled. What the
+//! header asks of a caller holds of every slice in Rust, so nothing is left to keep.
 //!
 //! An `Err` has the number of a refusal; `meaning` says it in words.
 
 // A program calls what it needs of this.
 #![allow(dead_code)]
+
+// By its path, so that it is looked for beside this file, not in a folder of this one's name.
+#[path = "humoraki_declarations.rs"]
+mod declarations;
+
+use declarations::{
+    humoraki_corners, humoraki_read, humoraki_report, humoraki_segment, humoraki_write,
+};
 
 /// The least number of entries in each slice that a function fills.
 const READ_ROOM: usize = 4096;
@@ -258,62 +266,6 @@ impl Columns {
             },
         }
     }
-}
-
-#[rustfmt::skip]
-unsafe extern "C" {
-    fn humoraki_read(
-        file: *const u8, file_len: usize,
-        times: *mut u32, times_len: usize,
-        lows: *mut i32, lows_len: usize,
-        highs: *mut i32, highs_len: usize,
-        address: *mut u16, level: *mut i32, ranges: *mut usize,
-    ) -> u8;
-
-    fn humoraki_write(
-        address: u16, level: i32,
-        times: *const u32, times_len: usize,
-        lows: *const i32, lows_len: usize,
-        highs: *const i32, highs_len: usize,
-        file: *mut u8, file_len: usize,
-        count: *mut usize,
-    ) -> u8;
-
-    fn humoraki_segment(
-        level: i32,
-        times: *const u32, times_len: usize,
-        lows: *const i32, lows_len: usize,
-        highs: *const i32, highs_len: usize,
-        first_times: *mut u32, first_times_len: usize,
-        last_times: *mut u32, last_times_len: usize,
-        counts: *mut u32, counts_len: usize,
-        slow_ps: *mut i64, slow_ps_len: usize,
-        slow_qs: *mut i64, slow_qs_len: usize,
-        slow_ds: *mut i64, slow_ds_len: usize,
-        fast_ps: *mut i64, fast_ps_len: usize,
-        fast_qs: *mut i64, fast_qs_len: usize,
-        fast_ds: *mut i64, fast_ds_len: usize,
-        somes: *mut u64, somes_len: usize,
-        alls: *mut u64, alls_len: usize,
-        count: *mut usize,
-    ) -> u8;
-
-    fn humoraki_corners(
-        k: usize,
-        times: *const u32, times_len: usize,
-        lows: *const i32, lows_len: usize,
-        highs: *const i32, highs_len: usize,
-        ps: *mut i64, ps_len: usize,
-        qs: *mut i64, qs_len: usize,
-        ds: *mut i64, ds_len: usize,
-        count: *mut usize,
-    ) -> u8;
-
-    fn humoraki_report(
-        file: *const u8, file_len: usize,
-        text: *mut u8, text_len: usize,
-        count: *mut usize,
-    ) -> u8;
 }
 
 #[cfg(test)]

@@ -50,6 +50,6 @@ need_tool() { # NAME [LIBRARY]
   stale "$tool" "$root/tools/src" "$root/include" "$@" || return 0
   need rustc "the Rust compiler"
   mkdir -p "$target/tools"
-  rustc --edition 2021 -O "$root/tools/src/$name.rs" ${1:+-L "$(dirname "$1")" -l static=humoraki} -o "$tool" >&2 ||
+  rustc --edition 2021 -O "$root/tools/src/$name.rs" ${1:+-L "$(dirname "$1")"} -o "$tool" >&2 ||
     fail "tools/src/$name.rs does not compile"
 }

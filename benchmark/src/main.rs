@@ -4,7 +4,6 @@ mod agreement;
 mod buffers;
 mod calls;
 mod group;
-mod library;
 mod measure;
 mod proved;
 mod random;

@@ -1,7 +1,10 @@
 //! The proved program: the calls of the static library, on slices.
 
-use crate::library::{humoraki_corners, humoraki_segment};
+#[path = "../../include/humoraki_declarations.rs"]
+mod declarations;
+
 use crate::slices::{CornerSlices, Lists, SegmentSlices};
+use declarations::{humoraki_corners, humoraki_segment};
 
 /// The count, unless the call gave the number of a refusal.
 fn answer(number: u8, count: usize) -> Result<usize, u8> {

@@ -1,11 +1,11 @@
-//! The functions of libhumoraki.a, declared as include/humoraki.h has them, and a safe function over each.
+//! The functions of libhumoraki.a, with a safe function over each that lends slices of any length.
 //!
-//! Nothing checks these declarations against the header: change both together. Each function gives 0 or the number
-//! of a refusal, and sets what it is lent as the header says. The file needs only the standard library, so that other
-//! programs can take it in by `#[path]`.
+//! Each function gives 0 or the number of a refusal, and sets what it is lent as include/humoraki.h says.
 
-// Each program that takes this file in uses some of it.
-#![allow(dead_code)]
+#[path = "../../include/humoraki_declarations.rs"]
+mod declarations;
+
+use declarations::{humoraki_corners, humoraki_read, humoraki_report, humoraki_segment, humoraki_write};
 
 pub const READ_ROOM: usize = 4096;
 pub const WRITE_ROOM: usize = 61_451;
@@ -15,89 +15,6 @@ pub const REPORT_ROOM: usize = 524_544;
 
 /// Stands for a time that there is not, in `somes` and `alls`.
 pub const NONE: u64 = 4_294_967_296;
-
-#[link(name = "humoraki", kind = "static")]
-extern "C" {
-    fn humoraki_read(
-        file: *const u8,
-        file_len: usize,
-        times: *mut u32,
-        times_len: usize,
-        lows: *mut i32,
-        lows_len: usize,
-        highs: *mut i32,
-        highs_len: usize,
-        address: *mut u16,
-        level: *mut i32,
-        ranges: *mut usize,
-    ) -> u8;
-
-    fn humoraki_write(
-        address: u16,
-        level: i32,
-        times: *const u32,
-        times_len: usize,
-        lows: *const i32,
-        lows_len: usize,
-        highs: *const i32,
-        highs_len: usize,
-        file: *mut u8,
-        file_len: usize,
-        count: *mut usize,
-    ) -> u8;
-
-    fn humoraki_segment(
-        level: i32,
-        times: *const u32,
-        times_len: usize,
-        lows: *const i32,
-        lows_len: usize,
-        highs: *const i32,
-        highs_len: usize,
-        first_times: *mut u32,
-        first_times_len: usize,
-        last_times: *mut u32,
-        last_times_len: usize,
-        counts: *mut u32,
-        counts_len: usize,
-        slow_ps: *mut i64,
-        slow_ps_len: usize,
-        slow_qs: *mut i64,
-        slow_qs_len: usize,
-        slow_ds: *mut i64,
-        slow_ds_len: usize,
-        fast_ps: *mut i64,
-        fast_ps_len: usize,
-        fast_qs: *mut i64,
-        fast_qs_len: usize,
-        fast_ds: *mut i64,
-        fast_ds_len: usize,
-        somes: *mut u64,
-        somes_len: usize,
-        alls: *mut u64,
-        alls_len: usize,
-        count: *mut usize,
-    ) -> u8;
-
-    fn humoraki_corners(
-        k: usize,
-        times: *const u32,
-        times_len: usize,
-        lows: *const i32,
-        lows_len: usize,
-        highs: *const i32,
-        highs_len: usize,
-        ps: *mut i64,
-        ps_len: usize,
-        qs: *mut i64,
-        qs_len: usize,
-        ds: *mut i64,
-        ds_len: usize,
-        count: *mut usize,
-    ) -> u8;
-
-    fn humoraki_report(file: *const u8, file_len: usize, text: *mut u8, text_len: usize, count: *mut usize) -> u8;
-}
 
 /// The ranges of a trace, in three lists.
 pub struct Ranges<'a> {
