@@ -24,4 +24,5 @@ pub mod SegmentPromise
 pub mod SegmentPromiseLaws
 pub mod Filling
 pub mod NextSegments
+pub mod GivenColumns
 pub mod Demand3

@@ -68,9 +68,9 @@ pub fn of_report(answer: ReportAnswer, old: usize) -> Counted
     ensures { λ r. ⌜ Counts (reportMeaning answer) (λ n. n) old (r .count) (r .number) ⌝ }
 {
     match answer {
-        ReportAnswer::Accepted(bytes) => Counted {
+        ReportAnswer::Accepted(length) => Counted {
             number: 0,
-            count: bytes,
+            count: length,
         },
         ReportAnswer::Refused(number) => Counted {
             number: number,

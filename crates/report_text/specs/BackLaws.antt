@@ -33,6 +33,7 @@ use Rattle.splits.specs.Segments.{segmentsOf-at}
 use Rattle.lines.specs.LineOrder.{Proper}
 use Rattle.lines.specs.FittingLines.{fitting-proper}
 use Rattle.lines.specs.Theorems.{segments-split}
+use Rattle.drift.specs.GivenColumns.{first-number, last-number, count-number}
 use Rattle.report_text.specs.Given.{timeFrom, outlookFrom, segmentFrom}
 
 -- ---- times
@@ -84,21 +85,6 @@ plain level (r ∷ s ∷ rs) o = found-plain level (endTime s rs) (fitting (r �
 
 -- ---- segments
 
-number-first : (a b n : ℕ) (o : Outlook) → numbers a b n o .firstTime ≡ a
-unfolding numbers
-number-first a b n open-strip = refl
-number-first a b n (lines k l x y) = refl
-
-number-last : (a b n : ℕ) (o : Outlook) → numbers a b n o .lastTime ≡ b
-unfolding numbers
-number-last a b n open-strip = refl
-number-last a b n (lines k l x y) = refl
-
-number-count : (a b n : ℕ) (o : Outlook) → numbers a b n o .count ≡ n
-unfolding numbers
-number-count a b n open-strip = refl
-number-count a b n (lines k l x y) = refl
-
 whole-back : (s : Segment) → Plain (s .outlook) → segmentFrom (numbersOf s) ≡ s
 unfolding segmentFrom numbersOf
 whole-back s h =
@@ -106,7 +92,7 @@ whole-back s h =
     let b = s .lastTime in
     let n = s .count in
     let o = s .outlook in
-    λ i. record { firstTime = number-first a b n o i; lastTime = number-last a b n o i; count = number-count a b n o i; outlook = outlook-back a b n o h i }
+    λ i. record { firstTime = first-number a b n o i; lastTime = last-number a b n o i; count = count-number a b n o i; outlook = outlook-back a b n o h i }
 
 pub segment-back : (level : ℤ) (run : List Range) → Ordered run → segmentFrom (numbersOf (segmentOf level run)) ≡ segmentOf level run
 unfolding segmentOf

@@ -7,41 +7,31 @@
 --
 -- Assumes nothing.
 use Prim.Native.Nat.{ℕ, zero, suc, _+_, _≤_, _<_}
-use mathlib.Core.Path.{_≡_, refl, sym, ap, ap₂, _∙_, subst}
-use mathlib.Core.List.{List, [], _∷_, _++_, map, append-assoc}
+use mathlib.Core.Path.{_≡_, refl, sym, ap, ap₂, _∙_}
+use mathlib.Core.List.{List, [], _∷_, _++_, append-assoc}
 use native.Mathlib.Omega.{arith}
 use lib.IntN.{ℤ, pos}
-use lib.ListN.{length, getD, take, drop, replicate, length-replicate, length-map, length-append, List·getD-map, List·getD-append}
+use lib.ListN.{length, getD, take, replicate, length-replicate, length-map}
 use lib.Seq.{take-suc, take-all, length-take-le}
 use Rattle.definitions.specs.Spans.{segmentRoom}
 use Rattle.definitions.specs.Ranges.{Range, Lists, rangesOf}
-use Rattle.definitions.specs.Fit.{Ordered}
 use Rattle.definitions.specs.Segments.{segments}
-use Rattle.definitions.specs.Results.{Segment, Numbers, segmentOf, segmentsOf, numbersOf}
-use Rattle.definitions.specs.Answers.{Answer, refused, accepted, _>>=_, firstRow, filled}
-use Rattle.definitions.specs.Trial.{segmentRows}
+use Rattle.definitions.specs.Results.{Segment, segmentOf, segmentsOf, numbersOf}
 use Rattle.definitions.specs.Calls.{segmentCall}
 use Rattle.definitions.specs.Report.{refusedLine, traceLine, segmentLine, segmentLines}
-use Rattle.trial_laws.specs.Rows.{first-row-accepted}
-use Rattle.trial_laws.specs.CallLaws.{both-accepted, call-accepted, accepted-is, bind-refused}
+use Rattle.trial_laws.specs.CallLaws.{bind-refused}
 use Rattle.trial_laws.specs.RangeLists.{ranges-length}
-use Rattle.trial_laws.specs.Accepted.{segment-accepted}
 use Rattle.lines.specs.Theorems.{segments-room}
 use Rattle.drift.specs.declared.SegmentAnswer.the-variants.{Accepted, Refused}
 use Rattle.drift.specs.Columns.{Columns, columns, Room, lengths}
 use Rattle.drift.specs.ColumnLaws.{each, each-apply}
 use Rattle.drift.specs.SegmentPromise.{segmentMeaning, SegmentPromise}
+use Rattle.drift.specs.GivenColumns.{called, taken, ordered, count-is, column-room, column-at}
 use Rattle.report_text.specs.Given.{rowAt, segmentFrom, linesFrom}
 use Rattle.report_text.specs.Lines.{answerText, listsText}
 use Rattle.report_text.specs.BackLaws.{segments-back}
 
 -- ---- lists
-
--- below the length the entry past the end does not matter
-getD-other : {A : Type 0} (l : List A) (j : ℕ) (a b : A) → j < length l → getD l j a ≡ getD l j b
-getD-other [] j a b h = absurd (omega arith)
-getD-other (x ∷ l) zero a b h = refl
-getD-other (x ∷ l) (suc j) a b h = getD-other l j a b (omega arith)
 
 lines-snoc : (place : ℕ) (ss : List Segment) (s : Segment) → segmentLines place (ss ++ (s ∷ [])) ≡ segmentLines place ss ++ segmentLine (place + length ss) s
 unfolding segmentLines
@@ -78,95 +68,54 @@ module _ {level : ℤ} {ls : Lists} {old new : Columns} {n : ℕ} (promise : Seg
   abbrev ss : List Segment
   ss = segmentsOf level rs
 
-  -- no row held
-  no-row : firstRow (segmentRows (lengths old) level ls) ≡ accepted tt
-  unfolding segmentMeaning segmentCall
-  no-row = both-accepted (segmentCall (lengths old) level ls) (λ ss. accepted (length ss)) n (sym (promise .answer-is)) (λ ss e f. passed ss e)
-    where
-      passed : (ss : List Segment) → segmentCall (lengths old) level ls ≡ accepted ss → firstRow (segmentRows (lengths old) level ls) ≡ accepted tt
-      passed ss e = first-row-accepted (segmentRows (lengths old) level ls) .1 (call-accepted (segmentRows (lengths old) level ls) (segmentsOf level rs) ss .0 e .0)
-
-  called : segmentCall (lengths old) level ls ≡ accepted ss
-  unfolding segmentCall _>>=_
-  called = ap (λ a. a >>= λ ok. accepted ss) no-row
-
-  ordered : Ordered rs
-  ordered = segment-accepted (lengths old) level ls .0 no-row .2 .ranges .ordered
-
-  count-is : n ≡ length ss
-  unfolding segmentMeaning _>>=_
-  count-is = accepted-is (promise .answer-is ∙ ap (λ a. a >>= λ ss. accepted (length ss)) called)
-
   pub few-given : n ≤ segmentRoom
   unfolding segmentsOf
   few-given =
-      let taken = segment-accepted (lengths old) level ls .0 no-row .2 in
-      omega (arith, count-is, length-map (segments rs) (segmentOf level), segments-room rs ordered (omega (arith, taken .few, ranges-length ls (taken .same))))
-
-  -- what a column holds
-  module _ {A : Type 0} (number : Numbers → A) (column column₀ : List A) (e : column ≡ filled (segmentCall (lengths old) level ls) (λ ss. map (λ s. number (numbersOf s)) ss) column₀) where
-    abbrev told : List A
-    told = map (λ s. number (numbersOf s)) ss
-
-    told-long : length told ≡ n
-    told-long = length-map ss (λ s. number (numbersOf s)) ∙ sym count-is
-
-    column-is : column ≡ told ++ drop (length told) column₀
-    unfolding filled
-    column-is = e ∙ ap (λ a. filled a (λ ss. map (λ s. number (numbersOf s)) ss) column₀) called
-
-    column-room : n ≤ length column
-    column-room = omega (arith, told-long, ap length column-is, length-append told (drop (length told) column₀))
-
-    column-at : (j : ℕ) → j < n → (past : A) → getD column j past ≡ number (numbersOf (getD ss j (segmentOf level [])))
-    column-at j h past =
-        ap (λ l. getD l j past) column-is
-        ∙ List·getD-append told (drop (length told) column₀) past j (omega (arith, told-long))
-        ∙ getD-other told j past (number (numbersOf (segmentOf level []))) (omega (arith, told-long))
-        ∙ List·getD-map (λ s. number (numbersOf s)) ss j (segmentOf level [])
+      let lists = taken promise in
+      omega (arith, count-is promise, length-map (segments rs) (segmentOf level), segments-room rs (ordered promise) (omega (arith, lists .few, ranges-length ls (lists .same))))
 
   row-at : (j : ℕ) → j < n → rowAt new j ≡ numbersOf (getD ss j (segmentOf level []))
   unfolding rowAt
   row-at j h =
       let c = promise .columns-are in
       λ i. record {
-        firstTime = column-at (λ m. m .firstTime) (new .firstTimes) (old .firstTimes) (c .first-times) j h 0 i;
-        lastTime = column-at (λ m. m .lastTime) (new .lastTimes) (old .lastTimes) (c .last-times) j h 0 i;
-        count = column-at (λ m. m .count) (new .counts) (old .counts) (c .counts) j h 0 i;
-        slowP = column-at (λ m. m .slowP) (new .slowPs) (old .slowPs) (c .slow-ps) j h (pos 0) i;
-        slowQ = column-at (λ m. m .slowQ) (new .slowQs) (old .slowQs) (c .slow-qs) j h (pos 0) i;
-        slowD = column-at (λ m. m .slowD) (new .slowDs) (old .slowDs) (c .slow-ds) j h (pos 0) i;
-        fastP = column-at (λ m. m .fastP) (new .fastPs) (old .fastPs) (c .fast-ps) j h (pos 0) i;
-        fastQ = column-at (λ m. m .fastQ) (new .fastQs) (old .fastQs) (c .fast-qs) j h (pos 0) i;
-        fastD = column-at (λ m. m .fastD) (new .fastDs) (old .fastDs) (c .fast-ds) j h (pos 0) i;
-        some = column-at (λ m. m .some) (new .somes) (old .somes) (c .somes) j h 0 i;
-        all = column-at (λ m. m .all) (new .alls) (old .alls) (c .alls) j h 0 i;
+        firstTime = column-at promise (λ m. m .firstTime) (new .firstTimes) (old .firstTimes) (c .first-times) j h 0 i;
+        lastTime = column-at promise (λ m. m .lastTime) (new .lastTimes) (old .lastTimes) (c .last-times) j h 0 i;
+        count = column-at promise (λ m. m .count) (new .counts) (old .counts) (c .counts) j h 0 i;
+        slowP = column-at promise (λ m. m .slowP) (new .slowPs) (old .slowPs) (c .slow-ps) j h (pos 0) i;
+        slowQ = column-at promise (λ m. m .slowQ) (new .slowQs) (old .slowQs) (c .slow-qs) j h (pos 0) i;
+        slowD = column-at promise (λ m. m .slowD) (new .slowDs) (old .slowDs) (c .slow-ds) j h (pos 0) i;
+        fastP = column-at promise (λ m. m .fastP) (new .fastPs) (old .fastPs) (c .fast-ps) j h (pos 0) i;
+        fastQ = column-at promise (λ m. m .fastQ) (new .fastQs) (old .fastQs) (c .fast-qs) j h (pos 0) i;
+        fastD = column-at promise (λ m. m .fastD) (new .fastDs) (old .fastDs) (c .fast-ds) j h (pos 0) i;
+        some = column-at promise (λ m. m .some) (new .somes) (old .somes) (c .somes) j h 0 i;
+        all = column-at promise (λ m. m .all) (new .alls) (old .alls) (c .alls) j h 0 i;
       }
 
   pub rows-given : Room n new
-  rows-given = each-apply (each (λ A number column e. column-room number (column new) (column old) e)) (promise .columns-are)
+  rows-given = each-apply (each (λ A number column e. column-room promise number (column new) (column old) e)) (promise .columns-are)
 
   lines-so-far : (k : ℕ) → k ≤ n → linesFrom new k ≡ segmentLines 1 (take k ss)
   unfolding linesFrom segmentLines
   lines-so-far zero h = refl
   lines-so-far (suc k) h =
       let s = getD ss k (segmentOf level []) in
-      let line : segmentFrom (rowAt new k) ≡ s = ap segmentFrom (row-at k (omega arith)) ∙ segments-back level rs ordered k in
-      let long : 1 + length (take k ss) ≡ suc k = omega (arith, length-take-le k ss (omega (arith, count-is, h))) in
+      let line : segmentFrom (rowAt new k) ≡ s = ap segmentFrom (row-at k (omega arith)) ∙ segments-back level rs (ordered promise) k in
+      let long : 1 + length (take k ss) ≡ suc k = omega (arith, length-take-le k ss (omega (arith, count-is promise, h))) in
       ap₂ (λ front t. front ++ segmentLine (suc k) t) (lines-so-far k (omega arith)) line
       ∙ ap (λ m. segmentLines 1 (take k ss) ++ segmentLine m s) (sym long)
       ∙ sym (lines-snoc 1 (take k ss) s)
-      ∙ ap (segmentLines 1) (sym (take-suc ss k (segmentOf level []) (omega (arith, count-is))))
+      ∙ ap (segmentLines 1) (sym (take-suc ss k (segmentOf level []) (omega (arith, count-is promise))))
 
   pub lines-given : linesFrom new n ≡ segmentLines 1 ss
-  lines-given = lines-so-far n (omega arith) ∙ ap (segmentLines 1) (take-all n ss (omega (arith, count-is)))
+  lines-given = lines-so-far n (omega arith) ∙ ap (segmentLines 1) (take-all n ss (omega (arith, count-is promise)))
 
   pub text-accepted : (address : ℕ) → lengths old ≡ replicate 11 segmentRoom → listsText address level ls ≡ traceLine address level (length (ls .times)) n ++ linesFrom new n
   unfolding listsText answerText
   text-accepted address room =
       ap (λ r. answerText address level (length (ls .times)) (segmentCall r level ls)) (sym room)
-      ∙ ap (answerText address level (length (ls .times))) called
-      ∙ ap₂ (λ m l. traceLine address level (length (ls .times)) m ++ l) (sym count-is) (sym lines-given)
+      ∙ ap (answerText address level (length (ls .times))) (called promise)
+      ∙ ap₂ (λ m l. traceLine address level (length (ls .times)) m ++ l) (sym (count-is promise)) (sym lines-given)
 
 pub text-refused : {level : ℤ} {ls : Lists} {old new : Columns} {e : ℕ} → SegmentPromise level ls old new (Refused e) → (address : ℕ) → lengths old ≡ replicate 11 segmentRoom
     → listsText address level ls ≡ refusedLine e

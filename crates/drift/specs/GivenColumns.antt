@@ -1,0 +1,100 @@
+-- What the slices hold where Segment accepted.
+--
+--     called, taken, ordered the call's result, that the lists are acceptable, and that the times of their ranges rise
+--     count-is               the number that Segment gave is the number of segments
+--     column-room, column-at a column has an entry for each segment: its number of that segment
+--     first-number, last-number, count-number   the first three numbers of a segment do not depend on its outlook
+--
+-- Assumes nothing.
+use mathlib.Core.Path.{_≡_, refl, sym, ap, _∙_}
+use mathlib.Core.List.{List, [], _∷_, _++_, map}
+use Prim.Native.Nat.{ℕ, zero, suc, _<_, _≤_}
+use native.Mathlib.Omega.{arith}
+use lib.IntN.{ℤ}
+use lib.ListN.{length, getD, drop, length-map, length-append, List·getD-map, List·getD-append}
+use Rattle.definitions.specs.Ranges.{Range, Lists, rangesOf}
+use Rattle.definitions.specs.Fit.{Ordered}
+use Rattle.definitions.specs.Outlook.{Outlook, open-strip, lines}
+use Rattle.definitions.specs.Results.{Segment, Numbers, segmentOf, segmentsOf, numbers, numbersOf}
+use Rattle.definitions.specs.Answers.{accepted, _>>=_, firstRow, filled}
+use Rattle.definitions.specs.Trial.{segmentRows}
+use Rattle.definitions.specs.Calls.{segmentCall}
+use Rattle.trial_laws.specs.Rows.{first-row-accepted}
+use Rattle.trial_laws.specs.CallLaws.{both-accepted, call-accepted, accepted-is}
+use Rattle.trial_laws.specs.Accepted.{AcceptedLists, segment-accepted}
+use Rattle.drift.specs.declared.SegmentAnswer.the-variants.{Accepted}
+use Rattle.drift.specs.Columns.{Columns, lengths}
+use Rattle.drift.specs.SegmentPromise.{segmentMeaning, SegmentPromise}
+
+-- ---- the numbers of a segment
+
+module _ (a b n : ℕ) where
+  pub first-number : (o : Outlook) → numbers a b n o .firstTime ≡ a
+  unfolding numbers
+  first-number open-strip = refl
+  first-number (lines k l x y) = refl
+
+  pub last-number : (o : Outlook) → numbers a b n o .lastTime ≡ b
+  unfolding numbers
+  last-number open-strip = refl
+  last-number (lines k l x y) = refl
+
+  pub count-number : (o : Outlook) → numbers a b n o .count ≡ n
+  unfolding numbers
+  count-number open-strip = refl
+  count-number (lines k l x y) = refl
+
+-- below the length the entry past the end does not matter
+getD-other : {A : Type 0} (l : List A) (j : ℕ) (a b : A) → j < length l → getD l j a ≡ getD l j b
+getD-other [] j a b h = absurd (omega arith)
+getD-other (x ∷ l) zero a b h = refl
+getD-other (x ∷ l) (suc j) a b h = getD-other l j a b (omega arith)
+
+-- ---- the slices
+
+module _ {level : ℤ} {ls : Lists} {old new : Columns} {n : ℕ} (promise : SegmentPromise level ls old new (Accepted n)) where
+  abbrev rs : List Range
+  rs = rangesOf ls
+
+  -- Segment accepted, so no row held
+  no-row : firstRow (segmentRows (lengths old) level ls) ≡ accepted tt
+  unfolding segmentMeaning segmentCall
+  no-row = both-accepted (segmentCall (lengths old) level ls) (λ ss. accepted (length ss)) n (sym (promise .answer-is)) (λ ss e f. passed ss e)
+    where
+      passed : (ss : List Segment) → segmentCall (lengths old) level ls ≡ accepted ss → firstRow (segmentRows (lengths old) level ls) ≡ accepted tt
+      passed ss e = first-row-accepted (segmentRows (lengths old) level ls) .1 (call-accepted (segmentRows (lengths old) level ls) (segmentsOf level rs) ss .0 e .0)
+
+  pub called : segmentCall (lengths old) level ls ≡ accepted (segmentsOf level rs)
+  unfolding segmentCall _>>=_
+  called = ap (λ a. a >>= λ ok. accepted (segmentsOf level rs)) no-row
+
+  pub taken : AcceptedLists ls
+  taken = segment-accepted (lengths old) level ls .0 no-row .2
+
+  pub ordered : Ordered rs
+  ordered = taken .ranges .ordered
+
+  pub count-is : n ≡ length (segmentsOf level rs)
+  unfolding segmentMeaning _>>=_
+  count-is = accepted-is (promise .answer-is ∙ ap (λ a. a >>= λ ss. accepted (length ss)) called)
+
+  module _ {A : Type 0} (number : Numbers → A) (column column₀ : List A) (e : column ≡ filled (segmentCall (lengths old) level ls) (λ ss. map (λ s. number (numbersOf s)) ss) column₀) where
+    abbrev told : List A
+    told = map (λ s. number (numbersOf s)) (segmentsOf level rs)
+
+    told-long : length told ≡ n
+    told-long = length-map (segmentsOf level rs) (λ s. number (numbersOf s)) ∙ sym count-is
+
+    column-is : column ≡ told ++ drop (length told) column₀
+    unfolding filled
+    column-is = e ∙ ap (λ a. filled a (λ ss. map (λ s. number (numbersOf s)) ss) column₀) called
+
+    pub column-room : n ≤ length column
+    column-room = omega (arith, told-long, ap length column-is, length-append told (drop (length told) column₀))
+
+    pub column-at : (j : ℕ) → j < n → (past : A) → getD column j past ≡ number (numbersOf (getD (segmentsOf level rs) j (segmentOf level [])))
+    column-at j h past =
+        ap (λ l. getD l j past) column-is
+        ∙ List·getD-append told (drop (length told) column₀) past j (omega (arith, told-long))
+        ∙ getD-other told j past (number (numbersOf (segmentOf level []))) (omega (arith, told-long))
+        ∙ List·getD-map (λ s. number (numbersOf s)) (segmentsOf level rs) j (segmentOf level [])
