@@ -6,10 +6,10 @@
 --
 -- Assumes nothing.
 use Prim.Native.Nat.{ℕ, zero, suc, _≤_}
-use mathlib.Core.Path.{_≡_, refl, sym, ap, ap₂, _∙_, subst}
+use mathlib.Core.Path.{_≡_, refl, sym, ap₂, subst}
 use mathlib.Core.Bool.{Bool, true, false, _||_}
 use mathlib.Core.Option.{Option, none, some}
-use mathlib.Core.List.{List, [], _∷_, _++_, flatten, getLastD}
+use mathlib.Core.List.{List, [], _∷_, flatten}
 use native.Mathlib.Omega.{arith}
 use borrow.Author.Tests.{ne-eqb}
 use lib.Dec.{T}
@@ -17,10 +17,10 @@ use lib.IntN.{ℤ, pos}
 use lib.Signed.{ltZ, _<ℤ_}
 use lib.ListN.{getD}
 use Rattle.integers.specs.Booleans.{T→true}
-use Rattle.integers.specs.Lists.{All, cons, All-head}
-use Rattle.integers.specs.Least.{IsLeast, nowhere, least-at, first, firstByEnds, first-least}
+use Rattle.integers.specs.Lists.{All, All-head}
+use Rattle.integers.specs.Least.{IsLeast, least-at, first, firstByEnds, first-least}
 use Rattle.definitions.specs.Spans.{mostTime}
-use Rattle.definitions.specs.Times.{Time, at}
+use Rattle.definitions.specs.Times.{Time}
 use Rattle.definitions.specs.Ranges.{Range}
 use Rattle.definitions.specs.Lines.{Line}
 use Rattle.definitions.specs.Fit.{Ordered}

@@ -7,7 +7,7 @@
 --     listsText              the report of lists: of their segments, or of the number that turns them down
 --
 -- Assumes nothing.
-use Prim.Native.Nat.{ℕ, _+_, _*_, _≤_, _<_}
+use Prim.Native.Nat.{ℕ, _+_, _*_, _≤_}
 use mathlib.Core.List.{List, _++_}
 use lib.IntN.{ℤ}
 use lib.ListN.{length, replicate}
@@ -16,7 +16,7 @@ use Rattle.definitions.specs.Ranges.{Lists}
 use Rattle.definitions.specs.Results.{Segment, Numbers}
 use Rattle.definitions.specs.Answers.{Answer, refused, accepted}
 use Rattle.definitions.specs.Calls.{segmentCall}
-use Rattle.definitions.specs.Report.{labelled, ascii, signedDecimal, outlookText, refusedLine, traceLine, segmentLines}
+use Rattle.definitions.specs.Report.{labelled, signedDecimal, outlookText, refusedLine, traceLine, segmentLines}
 use Rattle.drift.specs.Columns.{Columns, Room}
 use Rattle.report_text.specs.Given.{outlookFrom}
 

@@ -1,8 +1,9 @@
--- A trace that was read has lists that Segment takes, so that the report of a file is the report of its lists.
+-- A trace that was read has lists that Segment takes, so that the report of a file is the report of its lists; and how much of a file its report depends on.
 --
 --     report-of-lists        the report of what was read is the report of its lists
 --     report-refused         the report of a file that was turned down
 --     level-fits             the level that was read has 32 bits
+--     report-of-front        bytes after the first 65,536 do not change the report
 --
 -- Assumes nothing.
 use Prim.Native.Nat.{ℕ, zero, suc, _≤_}
@@ -12,23 +13,24 @@ use mathlib.Core.List.{List, [], _∷_, _++_}
 use native.Mathlib.Omega.{arith}
 use borrow.Author.Tests.{le-ltb}
 use lib.Dec.{ltb}
-use lib.ListN.{length, drop, replicate, length-map}
+use lib.ListN.{length, take, drop, replicate, length-map}
 use mir.Syntax.{w32}
 use mir.Val.{SFits}
 use Rattle.integers.specs.Lists.{any}
-use Rattle.definitions.specs.Spans.{mostRanges, segmentRoom}
+use Rattle.definitions.specs.Spans.{mostRanges, readRoom, segmentRoom}
 use Rattle.definitions.specs.Times.{Time, none, at}
 use Rattle.definitions.specs.Ranges.{Range, rangesOf}
 use Rattle.definitions.specs.Results.{segmentsOf}
 use Rattle.definitions.specs.Answers.{refused, accepted, _>>=_, Row, _if_, firstRow}
 use Rattle.definitions.specs.Trial.{outside, rangeRows, rangesRows, tooShort, listRows, segmentRows}
 use Rattle.definitions.specs.TraceFile.{Trace, header, takeField, addressRows, levelRows, rangeOf, readRanges, readFile}
-use Rattle.definitions.specs.Calls.{segmentCall}
+use Rattle.definitions.specs.Calls.{readCall, segmentCall}
 use Rattle.definitions.specs.Report.{refusedLine, traceLine, segmentLines, traceText, reportText, report}
 use Rattle.trial_laws.specs.Rows.{NoneHolds, first-row-accepted, none-join, refused-not-accepted}
 use Rattle.trial_laws.specs.CallLaws.{both-accepted, accepted-is}
 use Rattle.trial_laws.specs.RangeLists.{listsOf, ranges-of-lists, lists-alike}
 use Rattle.trace_laws.specs.Numbers.{in-span}
+use Rattle.trace_laws.specs.TraceLaws.{first-bytes}
 use Rattle.report_text.specs.Lines.{answerText, listsText}
 
 -- ---- what reading has tried
@@ -101,3 +103,8 @@ report-refused bs n e = sym (ap reportText e)
 -- the level has 32 bits
 pub level-fits : (bs : List ℕ) (t : Trace) → readFile bs ≡ accepted t → SFits w32 (t .level)
 level-fits bs t e = record { sfits = in-span (t .level) (trace-passed bs t e .level-in) }
+
+-- the report program reads no further
+pub report-of-front : (file : List ℕ) → report (take 65536 file) ≡ report file
+unfolding report readCall tooShort any firstRow _>>=_
+report-of-front file = ap reportText (first-bytes (replicate 3 readRoom) file)

@@ -16,7 +16,7 @@ use mir.Syntax.{w8, w16, w32, w64}
 use mir.Val.{Fits, SFits}
 use Rattle.definitions.specs.Times.{none, at}
 use Rattle.definitions.specs.Lines.{Line}
-use Rattle.definitions.specs.Outlook.{Outlook, open-strip, lines}
+use Rattle.definitions.specs.Outlook.{open-strip, lines}
 use Rattle.definitions.specs.Report.{ascii, labelled, decimal, signedDecimal, timeText, lineText, outlookText, spanText, segmentLine, traceLine, refusedLine}
 use Rattle.text.specs.DecimalLaws.{decimal-long}
 use Rattle.text.specs.SignLaws.{signed-long}

@@ -1,7 +1,7 @@
 // The report of a trace that was read: its segments, and a line for each.
-ghost use mathlib.Core.Path.{_≡_};
 ghost use Prim.Native.Nat.{_≤_};
 ghost use lib.ListN.{length};
+ghost use Rattle.definitions.specs.Report.{reportRoom};
 ghost use Rattle.drift.specs.Columns.{columns};
 ghost use Rattle.text.specs.Put.{Put};
 ghost use Rattle.report_text.specs.Given.{linesFrom};
@@ -66,7 +66,7 @@ pub fn put_trace(
     lows: &[i32],
     highs: &[i32],
 ) -> usize
-    requires { ⌜ 524544 ≤ length (now text) ⌝ }
+    requires { ⌜ reportRoom ≤ length (now text) ⌝ }
     ensures { λ r. ⌜ Put 0 (listsText address level (record { times = now (times .entry); lows = now (lows .entry); highs = now (highs .entry) })) (now (text .entry)) r (now (text .exit)) ⌝ }
 {
     let mut first_times = [0u32; 2048];

@@ -4,11 +4,10 @@
 --     put-then               a piece just after another is one piece
 --     room-front, room-then  room for two pieces is room for the first, and after it for the second
 --     put-length             the text stays as long as it was
---     put-inside             the place after a piece is not past the end
 --     FirstPut, first-none, first-next, first-all   the first bytes of a word: none, one more, and all
 --
 -- Assumes nothing.
-use Prim.Native.Nat.{ℕ, suc, _+_, _≤_, _<_}
+use Prim.Native.Nat.{ℕ, _+_, _≤_, _<_}
 use mathlib.Core.Path.{_≡_, refl, sym, ap, _∙_}
 use mathlib.Core.List.{List, [], _∷_, _++_}
 use native.Mathlib.Omega.{arith}
@@ -25,9 +24,6 @@ put-one at b old h = record { fits = h; next-is = refl; text-is = sym (splice-in
 module _ {at next : ℕ} {new old text : List ℕ} (put : Put at new old next text) where
   pub put-length : length text ≡ length old
   put-length = ap length (put .text-is) ∙ splice-length at new old
-
-  pub put-inside : next ≤ length text
-  put-inside = omega (arith, put .fits, put .next-is, put-length)
 
   pub room-then : (more : List ℕ) → Room at (new ++ more) old → Room next more text
   room-then more h = omega (arith, h, length-append new more, put .next-is, put-length)

@@ -1,14 +1,13 @@
 -- `report_text::report` meets its contract: 8 for a text that is too short; else what Read answers is told. Assumes nothing.
-use Prim.Native.Nat.{ℕ, _≤_}
+use Prim.Native.Nat.{ℕ}
 use mathlib.Core.Path.{_≡_, sym, subst}
 use mathlib.Core.List.{List}
-use lib.IntN.{ℤ, pos}
-use lib.ListN.{length, replicate, take}
+use lib.IntN.{pos}
+use lib.ListN.{replicate}
 use lib.Seq.{length-take-le}
 use borrow.Author.Needs.{needs}
 use Rattle.definitions.specs.Answers.{refused}
 use Rattle.definitions.specs.TraceFile.{readFile}
-use Rattle.definitions.specs.Report.{report}
 use Rattle.trace.specs.Promises.{ReadPromise}
 use Rattle.text.specs.Put.{Put}
 use Rattle.report_text.specs.ReadTraces.{report-refused}

@@ -1,5 +1,4 @@
 -- `text::put_digit` meets its contract: a store is a piece of one byte. Assumes nothing.
-use mathlib.Core.List.{[], _∷_}
 use Prim.Native.Nat.{_+_}
 use borrow.Author.Needs.{needs}
 use Rattle.text.specs.PutLaws.{put-one}

@@ -1,13 +1,9 @@
 -- `report_text::trace_text::put_trace` meets its contract: Segment's refusal is told, or the heading and a line for each segment. Assumes nothing.
-use Prim.Native.Nat.{ℕ, _≤_}
-use mathlib.Core.Path.{_≡_, refl, sym, ap, _∙_, subst}
-use mathlib.Core.List.{List}
+use mathlib.Core.Path.{sym, subst}
 use native.Mathlib.Omega.{arith}
-use lib.IntN.{ℤ, pos}
-use lib.ListN.{length, replicate, length-replicate}
+use lib.ListN.{length}
 use mir.Facts.{toZ-ofZ}
 use borrow.Author.Needs.{needs}
-use Rattle.definitions.specs.Spans.{segmentRoom}
 use Rattle.definitions.specs.Ranges.{Lists}
 use Rattle.definitions.specs.Report.{traceLine}
 use Rattle.drift.specs.declared.SegmentAnswer.the-variants.{Accepted, Refused}
@@ -15,7 +11,6 @@ use Rattle.drift.specs.Columns.{Columns, columns}
 use Rattle.drift.specs.SegmentPromise.{SegmentPromise}
 use Rattle.text.specs.Put.{Put}
 use Rattle.text.specs.PutLaws.{put-length, put-then}
-use Rattle.report_text.specs.Lines.{RowsReady, listsText}
 use Rattle.report_text.specs.SegmentText.{zeroColumns, zero-lengths, rows-given, few-given, text-accepted, text-refused}
 use Rattle.report_text.proofs.trace_text.put_trace.Statement.{statement}
 use Rattle.report_text.proofs.trace_text.put_trace.Tie as tie
