@@ -13,7 +13,7 @@
 use mathlib.Core.Bool.{Bool, not, _&&_, _||_}
 use mathlib.Core.List.{List, [], _∷_, _++_, map, reverse, getLastD}
 use lib.IntN.{ℤ, pos, _+ℤ_, _-ℤ_, _*ℤ_}
-use lib.Signed.{ltZ, leZ, quotZ}
+use lib.Signed.{ltZ, quotZ}
 use Rattle.integers.specs.Tests.{eqZ}
 use Rattle.integers.specs.Lists.{any, filter}
 use Rattle.integers.specs.Sorting.{sorted}

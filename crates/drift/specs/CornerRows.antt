@@ -1,6 +1,5 @@
 -- The corners of a polygon in three lent slices: what code writes, and that it is document 01's list.
 --
---     row-put                                one line stored, in lowest terms
 --     ChainListed f a b old.. at new.. n     the lines through neighbours of the points from a to b stand from `at` up to n, in lowest terms
 --     listed-none, listed-more               before the loop, and after one more point
 --     joined-small                           the line through neighbours is small where times rise
@@ -18,10 +17,9 @@ use mathlib.Core.Bool.{Bool, true, false}
 use mathlib.Core.List.{List, [], _∷_, _++_, map, map-append, append-assoc}
 use Prim.Native.Nat.{ℕ, _+_, _-_, _<_, _≤_}
 use native.Mathlib.Omega.{arith}
-use lib.ListN.{length, set, length-map, length-append}
+use lib.ListN.{length, length-map, length-append}
 use lib.IntN.{ℤ, pos}
 use lib.Signed.{ltZ, _<ℤ_}
-use mir.Syntax.{w64}
 use Rattle.integers.specs.Lists.{All, All-in, All-head, All-tail, All-append-left, All-append-right}
 use Rattle.definitions.specs.Lines.{Line as Line01}
 use Rattle.definitions.specs.Corners.{reduced}
@@ -35,19 +33,8 @@ use Rattle.drift_laws.specs.LineRows.{RowRoom, RowsSet, RowsFirst, rows-none, r
 use Rattle.drift.specs.declared.values.Line.{Line}
 use Rattle.drift.specs.declared.chain.Polygon.{Polygon}
 use Rattle.drift.specs.Meanings.{lineOf}
-use Rattle.drift.specs.Small.{Bounded, Small, Reduced, small}
-use Rattle.drift.specs.Signed.{as-i64, read-back}
+use Rattle.drift.specs.Small.{Bounded, Small, small}
 use Rattle.drift.specs.Polygons.{polygonOf, Shape}
-
--- ---- one line
-pub row-put : {l r : Line} → Reduced l r → (ps qs ds : List ℤ) (at : ℕ)
-    → RowsSet at (reduced (lineOf l) ∷ []) ps qs ds (set ps at (as-i64 (r .p))) (set qs at (as-i64 (r .q))) (set ds at (as-i64 (r .d)))
-row-put k ps qs ds at =
-    record {
-      p-is = ap (set ps at) (read-back w64 (k .small .p-in) tt ∙ ap (λ m. m .p) (k .is));
-      q-is = ap (set qs at) (read-back w64 (k .small .q-in) tt ∙ ap (λ m. m .q) (k .is));
-      d-is = ap (set ds at) (read-back w64 (k .small .d-in) tt ∙ ap (λ m. m .d) (k .is));
-    }
 
 -- ---- one chain
 pub record ChainListed (f : ℕ → Point) (a b : ℕ) (ps qs ds : List ℤ) (at : ℕ) (ps′ qs′ ds′ : List ℤ) (n : ℕ) : Type 0 where

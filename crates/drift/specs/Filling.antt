@@ -3,7 +3,7 @@
 --     Tried              the level and the lists, where no row of document 01's table holds for them
 --     ChainRoom          slices of these lengths have room for the chains of a run
 --     StartReady         these, and a range at which a segment is to begin
---     FillReady          these, and room for all segments: what filling takes
+--     FillReady          the level and the lists tried, and room for all segments: what filling takes
 --     NextSegment        the segment that begins at a range is the next one, and ends within the lists
 --     Turn               after some turns: the first segments are stored, and the ranges from `start` on hold those that are left
 --     ranges-long        there are no more ranges than times
@@ -36,9 +36,8 @@ pub record StartReady (level : ℤ) (ls : Lists) (up down : ℕ) (start : ℕ) :
   pub chains : ChainRoom ls up down
   pub inside : start < length (ls .times)
 
-pub record FillReady (level : ℤ) (ls : Lists) (up down : ℕ) (cs : Columns) : Type 0 where
+pub record FillReady (level : ℤ) (ls : Lists) (cs : Columns) : Type 0 where
   pub tried : Tried level ls
-  pub chains : ChainRoom ls up down
   pub room : Room (length (segmentsOf level (rangesOf ls))) cs
 
 pub record NextSegment (level : ℤ) (ls : Lists) (start : ℕ) (s : Segment) : Type 0 where

@@ -12,7 +12,7 @@ use Prim.Native.Nat.{ℕ, suc, _+_, _-_, _<_, _≤_}
 use native.Mathlib.Nat.{eq-or-lt-of-le}
 use native.Mathlib.Omega.{arith}
 use lib.IntN.{ℤ}
-use lib.ListN.{length, take, drop, length-take, length-drop, drop-of-length-le}
+use lib.ListN.{length, drop, length-take, length-drop, drop-of-length-le}
 use Rattle.definitions.specs.Spans.{mostTime}
 use Rattle.definitions.specs.Ranges.{Range, Lists, rangesOf}
 use Rattle.definitions.specs.Corners.{reduced}
@@ -34,7 +34,7 @@ use Rattle.drift_laws.specs.RunsByPlace.{run, run-one, run-two, run-more, run-r
 use Rattle.drift.specs.declared.run.Reach.{Reach}
 use Rattle.drift.specs.Meanings.{lineOf}
 use Rattle.drift.specs.Reach.{lookAhead}
-use Rattle.drift.specs.RunsFrom.{RunFrom, PolygonAt}
+use Rattle.drift.specs.RunsFrom.{RunFrom}
 use Rattle.drift.specs.Filling.{NextSegment}
 
 -- a run of at least one range is not empty

@@ -16,6 +16,7 @@ use crate::chain::Polygon;
 use crate::line::reduced;
 use crate::points::joining;
 use crate::points::steeper;
+use crate::rows::store_line;
 use crate::values::Line;
 
 // A line in lowest terms, stored at a place of the three slices.
@@ -24,12 +25,7 @@ fn put(ps: &mut [i64], qs: &mut [i64], ds: &mut [i64], at: usize, l: Line)
     ensures { λ r. ⌜ RowsSet at (reducedOf (lineOf l) ∷ []) (now (ps .entry)) (now (qs .entry)) (now (ds .entry)) (now (ps .exit)) (now (qs .exit)) (now (ds .exit)) ⌝ }
 {
     let r = reduced(l);
-    let p = r.p;
-    let q = r.q;
-    let d = r.d;
-    ps[at] = p;
-    qs[at] = q;
-    ds[at] = d;
+    store_line(ps, qs, ds, at, r);
 }
 
 // The lines through neighbours of a chain, from the place at on, and the place after them.

@@ -6,7 +6,8 @@ ghost use Rattle.drift.specs.Meanings.{segmentOf};
 ghost use Rattle.drift.specs.Columns.{columns, AllStored};
 ghost use Rattle.drift.specs.Filling.{StartReady, FillReady, NextSegment};
 use crate::outlook::outlook_of;
-use crate::rows;
+use crate::rows::row_of;
+use crate::rows::store_line;
 use crate::run::run_from;
 use crate::values::Outlook;
 use crate::values::Segment;
@@ -51,14 +52,12 @@ fn segment_from(
     }
 }
 
-// Stores each segment at its place, and counts them. `up` and `down` are room for the chains of the run at hand.
+// Stores each segment at its place, and counts them. `up` and `down` hold the chains of the run at hand.
 pub fn fill(
     level: i32,
     times: &[u32],
     lows: &[i32],
     highs: &[i32],
-    up: &mut [u32],
-    down: &mut [u32],
     first_times: &mut [u32],
     last_times: &mut [u32],
     counts: &mut [u32],
@@ -71,30 +70,26 @@ pub fn fill(
     somes: &mut [u64],
     alls: &mut [u64],
 ) -> usize
-    requires { ⌜ FillReady level (record { times = now times; lows = now lows; highs = now highs }) (length (now up)) (length (now down)) (columns (now «first_times») (now «last_times») (now counts) (now «slow_ps») (now «slow_qs») (now «slow_ds») (now «fast_ps») (now «fast_qs») (now «fast_ds») (now somes) (now alls)) ⌝ }
+    requires { ⌜ FillReady level (record { times = now times; lows = now lows; highs = now highs }) (columns (now «first_times») (now «last_times») (now counts) (now «slow_ps») (now «slow_qs») (now «slow_ds») (now «fast_ps») (now «fast_qs») (now «fast_ds») (now somes) (now alls)) ⌝ }
     ensures { λ r. ⌜ AllStored r (segmentsOf level (rangesOf (record { times = now (times .entry); lows = now (lows .entry); highs = now (highs .entry) }))) (columns (now («first_times» .entry)) (now («last_times» .entry)) (now (counts .entry)) (now («slow_ps» .entry)) (now («slow_qs» .entry)) (now («slow_ds» .entry)) (now («fast_ps» .entry)) (now («fast_qs» .entry)) (now («fast_ds» .entry)) (now (somes .entry)) (now (alls .entry))) (columns (now («first_times» .exit)) (now («last_times» .exit)) (now (counts .exit)) (now («slow_ps» .exit)) (now («slow_qs» .exit)) (now («slow_ds» .exit)) (now («fast_ps» .exit)) (now («fast_qs» .exit)) (now («fast_ds» .exit)) (now (somes .exit)) (now (alls .exit))) ⌝ }
 {
+    let mut up = [0u32; 4096];
+    let mut down = [0u32; 4096];
     let mut start = 0;
     let mut count = 0;
     while start < times.len() {
-        let segment = segment_from(level, times, lows, highs, up, down, start);
+        let segment = segment_from(level, times, lows, highs, &mut up, &mut down, start);
         let ranges = segment.count as usize;
-        let row = rows::row_of(segment);
-        rows::store_row(
-            count,
-            row,
-            first_times,
-            last_times,
-            counts,
-            slow_ps,
-            slow_qs,
-            slow_ds,
-            fast_ps,
-            fast_qs,
-            fast_ds,
-            somes,
-            alls,
-        );
+        let row = row_of(segment);
+        first_times[count] = row.first_time;
+        last_times[count] = row.last_time;
+        counts[count] = row.count;
+        let slow = row.slow;
+        store_line(slow_ps, slow_qs, slow_ds, count, slow);
+        let fast = row.fast;
+        store_line(fast_ps, fast_qs, fast_ds, count, fast);
+        somes[count] = row.some;
+        alls[count] = row.all;
         start += ranges;
         count += 1;
     }

@@ -61,15 +61,11 @@ pub fn segment(
     if number != 0 {
         return SegmentAnswer::Refused(number);
     }
-    let mut up = [0u32; 4096];
-    let mut down = [0u32; 4096];
     let count = filling::fill(
         level,
         times,
         lows,
         highs,
-        &mut up,
-        &mut down,
         first_times,
         last_times,
         counts,

@@ -1,4 +1,4 @@
-// From a segment to the eleven lent slices: the eleven numbers of the segment, and one of them into each slice.
+// From a segment to the eleven lent slices: the eleven numbers of the segment, and three of them into their slices.
 ghost use mathlib.Core.Path.{_≡_};
 ghost use mathlib.Core.Bool.{_||_};
 ghost use mathlib.Core.List.{[], _∷_};
@@ -7,9 +7,10 @@ ghost use lib.Dec.{ltb};
 ghost use Rattle.definitions.specs.Spans.{segmentRoom};
 ghost use Rattle.definitions.specs.Trial.{tooShort};
 ghost use Rattle.definitions.specs.Results.{timeNumber, numbersOf};
-ghost use Rattle.drift.specs.Meanings.{timeOf, segmentOf};
-ghost use Rattle.drift.specs.Columns.{columns, Room, Stored};
+ghost use Rattle.drift_laws.specs.LineRows.{RowRoom, RowsSet};
+ghost use Rattle.drift.specs.Meanings.{lineOf, timeOf, segmentOf};
 ghost use Rattle.drift.specs.Rows.{rowOf};
+use crate::values::Line;
 use crate::values::Outlook;
 use crate::values::Segment;
 use crate::values::Time;
@@ -20,17 +21,13 @@ const NEVER: u64 = 4294967296;
 // The least length of a slice to be filled.
 const ROOM: usize = 2048;
 
-// The numbers of a segment, in the slices' order.
+// The numbers of a segment, in the slices' order; a line has three.
 pub struct Row {
     pub first_time: u32,
     pub last_time: u32,
     pub count: u32,
-    pub slow_p: i64,
-    pub slow_q: i64,
-    pub slow_d: i64,
-    pub fast_p: i64,
-    pub fast_q: i64,
-    pub fast_d: i64,
+    pub slow: Line,
+    pub fast: Line,
     pub some: u64,
     pub all: u64,
 }
@@ -50,19 +47,18 @@ pub fn row_of(s: Segment) -> Row
 {
     let outlook = s.outlook;
     match outlook {
-        Outlook::Open => Row {
-            first_time: s.first_time,
-            last_time: s.last_time,
-            count: s.count,
-            slow_p: 0,
-            slow_q: 0,
-            slow_d: 0,
-            fast_p: 0,
-            fast_q: 0,
-            fast_d: 0,
-            some: 0,
-            all: 0,
-        },
+        Outlook::Open => {
+            let zeros = Line { p: 0, q: 0, d: 0 };
+            Row {
+                first_time: s.first_time,
+                last_time: s.last_time,
+                count: s.count,
+                slow: zeros,
+                fast: zeros,
+                some: 0,
+                all: 0,
+            }
+        }
         Outlook::Lines {
             slow,
             fast,
@@ -72,54 +68,25 @@ pub fn row_of(s: Segment) -> Row
             first_time: s.first_time,
             last_time: s.last_time,
             count: s.count,
-            slow_p: slow.p,
-            slow_q: slow.q,
-            slow_d: slow.d,
-            fast_p: fast.p,
-            fast_q: fast.q,
-            fast_d: fast.d,
+            slow: slow,
+            fast: fast,
             some: time_number(some),
             all: time_number(all),
         },
     }
 }
 
-// Stores a row at a place of each slice.
-pub fn store_row(
-    at: usize,
-    row: Row,
-    first_times: &mut [u32],
-    last_times: &mut [u32],
-    counts: &mut [u32],
-    slow_ps: &mut [i64],
-    slow_qs: &mut [i64],
-    slow_ds: &mut [i64],
-    fast_ps: &mut [i64],
-    fast_qs: &mut [i64],
-    fast_ds: &mut [i64],
-    somes: &mut [u64],
-    alls: &mut [u64],
-)
-    requires { ⌜ Room (suc at) (columns (now «first_times») (now «last_times») (now counts) (now «slow_ps») (now «slow_qs») (now «slow_ds») (now «fast_ps») (now «fast_qs») (now «fast_ds») (now somes) (now alls)) ⌝ }
-    ensures { λ _. ⌜ Stored at (rowOf row) (columns (now («first_times» .entry)) (now («last_times» .entry)) (now (counts .entry)) (now («slow_ps» .entry)) (now («slow_qs» .entry)) (now («slow_ds» .entry)) (now («fast_ps» .entry)) (now («fast_qs» .entry)) (now («fast_ds» .entry)) (now (somes .entry)) (now (alls .entry))) (columns (now («first_times» .exit)) (now («last_times» .exit)) (now (counts .exit)) (now («slow_ps» .exit)) (now («slow_qs» .exit)) (now («slow_ds» .exit)) (now («fast_ps» .exit)) (now («fast_qs» .exit)) (now («fast_ds» .exit)) (now (somes .exit)) (now (alls .exit))) ⌝ }
+// Stores a line at a place of three slices.
+pub fn store_line(ps: &mut [i64], qs: &mut [i64], ds: &mut [i64], at: usize, l: Line)
+    requires { ⌜ RowRoom (suc at) (now ps) (now qs) (now ds) ⌝ }
+    ensures { λ _. ⌜ RowsSet at (lineOf l ∷ []) (now (ps .entry)) (now (qs .entry)) (now (ds .entry)) (now (ps .exit)) (now (qs .exit)) (now (ds .exit)) ⌝ }
 {
-    first_times[at] = row.first_time;
-    last_times[at] = row.last_time;
-    counts[at] = row.count;
-    let slow_p = row.slow_p;
-    slow_ps[at] = slow_p;
-    let slow_q = row.slow_q;
-    slow_qs[at] = slow_q;
-    let slow_d = row.slow_d;
-    slow_ds[at] = slow_d;
-    let fast_p = row.fast_p;
-    fast_ps[at] = fast_p;
-    let fast_q = row.fast_q;
-    fast_qs[at] = fast_q;
-    let fast_d = row.fast_d;
-    fast_ds[at] = fast_d;
-    somes[at] = row.some;
-    alls[at] = row.all;
+    let p = l.p;
+    let q = l.q;
+    let d = l.d;
+    ps[at] = p;
+    qs[at] = q;
+    ds[at] = d;
 }
 
 // Whether a slice of n entries is too short to be filled, or one of the others is.

@@ -26,7 +26,7 @@ use mathlib.Core.List.{List, [], _∷_}
 use Prim.Native.Nat.{ℕ}
 use lib.Dec.{T}
 use lib.IntN.{ℤ, pos, negsuc, _+ℤ_, _-ℤ_, _*ℤ_}
-use lib.Signed.{_≤ℤ_, _<ℤ_, <ℤ-irrefl, leZ, ltZ}
+use lib.Signed.{_≤ℤ_, _<ℤ_, <ℤ-irrefl, ltZ}
 use Rattle.integers.specs.OrderLaws.{≤ℤ-antisym, ≤ℤ-of-≡, ≤ℤ-or-<ℤ, ≤ℤ-<ℤ-⊥, mul-pos}
 use Rattle.integers.specs.RingSolver.{var, lit, :neg, _:*_}
 use Rattle.integers.specs.Certificates.{hyp, num, eqn, _⊞_, _⊠_}

@@ -9,7 +9,7 @@ use lib.ListN.{length, length-map}
 use mir.Syntax.{w32}
 use mir.Val.{toZ, ofZ}
 use mir.Facts.{toZ-ofZ}
-use Rattle.definitions.specs.Spans.{mostRanges, segmentRoom}
+use Rattle.definitions.specs.Spans.{segmentRoom}
 use Rattle.definitions.specs.Ranges.{Lists, rangesOf}
 use Rattle.definitions.specs.Results.{segmentOf, segmentsOf}
 use Rattle.definitions.specs.Answers.{Row, refused, accepted, firstRow, refusal}
@@ -19,7 +19,6 @@ use Rattle.trial_laws.specs.ListTrial.{trialRows, segment-trial, trial-numbered
 use Rattle.trial_laws.specs.RangeLists.{ranges-length}
 use Rattle.lines.specs.Theorems.{segments-room}
 use Rattle.definitions.specs.Segments.{segments}
-use borrow.Author.Needs.{needs}
 use Rattle.trial_laws.specs.Accepted.{AcceptedLists, trial-zero}
 use Rattle.drift.specs.Columns.{Columns, columns, lengths, AllStored}
 use Rattle.drift.specs.ColumnLaws.{room-less, room-tested}
@@ -88,13 +87,11 @@ module _ (c : tie.After-try-lists) where
   none-holds : number ≡ 0 → firstRow (segmentRows (lengths (old entry)) (level entry) (lists entry)) ≡ accepted tt
   none-holds e = rows-are ∙ refusal-zero rows (trial-numbered _ _ (lists entry)) .0 (number-is ∙ e)
 
-  -- the chains lie in two arrays, each with room for every range
-  ready : number ≡ 0 → FillReady (level entry) (lists entry) mostRanges mostRanges (old entry)
+  ready : number ≡ 0 → FillReady (level entry) (lists entry) (old entry)
   ready e =
       let (roomy, inside, lists-accepted) = trial-zero _ _ (lists entry) .0 (number-is ∙ e) in
       record {
         tried = record { level-inside = ap outside (sym (level-read entry)) ∙ sym (c .before .value-outside .ensures) ∙ inside; lists-accepted = lists-accepted };
-        chains = record { up-room = lists-accepted .few; down-room = lists-accepted .few };
         room = room-less (few (level entry) (lists entry) lists-accepted) (room-tested (old entry) (sym (c .before .before .too-short .ensures) ∙ roomy));
       }
 
@@ -103,64 +100,58 @@ returns c = let s = entry (c .before) in promise-refused (level s) (lists s) (ol
 
 fill-requires : tie.Need-fill-requires
 fill-requires c κs =
-    let t = c .before .before .before .before .before .before .before .before .before .before .before .before .before .before in
+    let t = c .before .before .before .before .before .before .before .before .before .before .before .before in
     let s = entry t in
-    subst (λ l. FillReady l (lists s) mostRanges mostRanges (old s)) (sym (level-read s)) (ready t (c .before .before .before .before .before .before .before .before .before .before .before .before .before .if1 .left))
+    subst (λ l. FillReady l (lists s) (old s)) (sym (level-read s)) (ready t (c .before .before .before .before .before .before .before .before .before .before .before .if1 .left))
 
 -- ---- where the slices are filled
 
 -- after the call
 abbrev filled-at : tie.After-slice-known10 → tie.After-fill
-filled-at c = c .before .before .before .before .before .before .before .before .before .before .before .before .before .before .before .before .before .before
+filled-at c = c .before .before .before .before .before .before .before .before .before .before .before .before .before .before .before .before
 
 same-length : tie.Need-same-length
-same-length c = filled-at c .fill .kept .1 .1 .1 .1 .1 .1 .0
+same-length c = filled-at c .fill .kept .1 .1 .1 .1 .0
 
 same-length-2 : tie.Need-same-length-2
-same-length-2 c = filled-at c .fill .kept .1 .1 .1 .1 .1 .1 .1 .0
+same-length-2 c = filled-at c .fill .kept .1 .1 .1 .1 .1 .0
 
 same-length-3 : tie.Need-same-length-3
-same-length-3 c = filled-at c .fill .kept .1 .1 .1 .1 .1 .1 .1 .1 .0
+same-length-3 c = filled-at c .fill .kept .1 .1 .1 .1 .1 .1 .0
 
 same-length-4 : tie.Need-same-length-4
-same-length-4 c = filled-at c .fill .kept .1 .1 .1 .1 .1 .1 .1 .1 .1 .0
+same-length-4 c = filled-at c .fill .kept .1 .1 .1 .1 .1 .1 .1 .0
 
 same-length-5 : tie.Need-same-length-5
-same-length-5 c = filled-at c .fill .kept .1 .1 .1 .1 .1 .1 .1 .1 .1 .1 .0
+same-length-5 c = filled-at c .fill .kept .1 .1 .1 .1 .1 .1 .1 .1 .0
 
 same-length-6 : tie.Need-same-length-6
-same-length-6 c = filled-at c .fill .kept .1 .1 .1 .1 .1 .1 .1 .1 .1 .1 .1 .0
+same-length-6 c = filled-at c .fill .kept .1 .1 .1 .1 .1 .1 .1 .1 .1 .0
 
 same-length-7 : tie.Need-same-length-7
-same-length-7 c = filled-at c .fill .kept .1 .1 .1 .1 .1 .1 .1 .1 .1 .1 .1 .1 .0
+same-length-7 c = filled-at c .fill .kept .1 .1 .1 .1 .1 .1 .1 .1 .1 .1 .0
 
 same-length-8 : tie.Need-same-length-8
-same-length-8 c = filled-at c .fill .kept .1 .1 .1 .1 .1 .1 .1 .1 .1 .1 .1 .1 .1 .0
+same-length-8 c = filled-at c .fill .kept .1 .1 .1 .1 .1 .1 .1 .1 .1 .1 .1 .0
 
 same-length-9 : tie.Need-same-length-9
-same-length-9 c = filled-at c .fill .kept .1 .1 .1 .1 .1 .1 .1 .1 .1 .1 .1 .1 .1 .1 .0
+same-length-9 c = filled-at c .fill .kept .1 .1 .1 .1 .1 .1 .1 .1 .1 .1 .1 .1 .0
 
 same-length-10 : tie.Need-same-length-10
-same-length-10 c = filled-at c .fill .kept .1 .1 .1 .1 .1 .1 .1 .1 .1 .1 .1 .1 .1 .1 .1 .0
+same-length-10 c = filled-at c .fill .kept .1 .1 .1 .1 .1 .1 .1 .1 .1 .1 .1 .1 .1 .0
 
 same-length-11 : tie.Need-same-length-11
-same-length-11 c = filled-at c .fill .kept .1 .1 .1 .1 .1 .1 .1 .1 .1 .1 .1 .1 .1 .1 .1 .1 .0
+same-length-11 c = filled-at c .fill .kept .1 .1 .1 .1 .1 .1 .1 .1 .1 .1 .1 .1 .1 .1 .0
 
 returns-2 : tie.Need-returns-2
 returns-2 c =
     let f = filled-at c in
-    let t = f .before .before .before .before .before .before .before .before .before .before .before .before .before .before .before in
+    let t = f .before .before .before .before .before .before .before .before .before .before .before .before .before in
     let s = entry t in
     let filling = f .fill in
-    let new = columns (filling .last .1 .1 .1 .1 .1 .1 .0) (filling .last .1 .1 .1 .1 .1 .1 .1 .0) (filling .last .1 .1 .1 .1 .1 .1 .1 .1 .0) (filling .last .1 .1 .1 .1 .1 .1 .1 .1 .1 .0) (filling .last .1 .1 .1 .1 .1 .1 .1 .1 .1 .1 .0) (filling .last .1 .1 .1 .1 .1 .1 .1 .1 .1 .1 .1 .0) (filling .last .1 .1 .1 .1 .1 .1 .1 .1 .1 .1 .1 .1 .0) (filling .last .1 .1 .1 .1 .1 .1 .1 .1 .1 .1 .1 .1 .1 .0) (filling .last .1 .1 .1 .1 .1 .1 .1 .1 .1 .1 .1 .1 .1 .1 .0) (filling .last .1 .1 .1 .1 .1 .1 .1 .1 .1 .1 .1 .1 .1 .1 .1 .0) (filling .last .1 .1 .1 .1 .1 .1 .1 .1 .1 .1 .1 .1 .1 .1 .1 .1 .0) in
-    promise-accepted (level s) (lists s) (filling .result) (none-holds t (f .before .before .before .before .before .before .before .before .before .before .before .before .before .before .if1 .left))
+    let new = columns (filling .last .1 .1 .1 .1 .0) (filling .last .1 .1 .1 .1 .1 .0) (filling .last .1 .1 .1 .1 .1 .1 .0) (filling .last .1 .1 .1 .1 .1 .1 .1 .0) (filling .last .1 .1 .1 .1 .1 .1 .1 .1 .0) (filling .last .1 .1 .1 .1 .1 .1 .1 .1 .1 .0) (filling .last .1 .1 .1 .1 .1 .1 .1 .1 .1 .1 .0) (filling .last .1 .1 .1 .1 .1 .1 .1 .1 .1 .1 .1 .0) (filling .last .1 .1 .1 .1 .1 .1 .1 .1 .1 .1 .1 .1 .0) (filling .last .1 .1 .1 .1 .1 .1 .1 .1 .1 .1 .1 .1 .1 .0) (filling .last .1 .1 .1 .1 .1 .1 .1 .1 .1 .1 .1 .1 .1 .1 .0) in
+    promise-accepted (level s) (lists s) (filling .result) (none-holds t (f .before .before .before .before .before .before .before .before .before .before .before .before .if1 .left))
     (subst (λ l. AllStored (filling .result) (segmentsOf l (rangesOf (lists s))) (old s) new) (level-read s) (filling .ensures))
-
-slice-aggregate-fill : tie.Need-slice-aggregate-fill
-slice-aggregate-fill c = search needs
-
-slice-aggregate-fill-2 : tie.Need-slice-aggregate-fill-2
-slice-aggregate-fill-2 c = search needs
 
 pub segment-spec : {M : Type 1} → statement M
 segment-spec =
@@ -170,8 +161,6 @@ segment-spec =
     value-outside-requires
     try-lists-requires
     returns
-    slice-aggregate-fill
-    slice-aggregate-fill-2
     fill-requires
     same-length
     same-length-2

@@ -1,56 +1,31 @@
 -- `drift::corner_list::put` meets its contract. Assumes nothing.
-use borrow.Author.Needs.{needs}
-use Rattle.drift.specs.CornerRows.{row-put}
+use mathlib.Core.Path.{refl, subst}
+use mathlib.Core.List.{[], _∷_}
+use native.Mathlib.Omega.{arith}
+use Rattle.drift_laws.specs.LineRows.{RowsSet, room-kept}
 use Rattle.drift.proofs.corner_list.put.Statement.{statement}
 use Rattle.drift.proofs.corner_list.put.Tie as tie
 
 reduced-requires : tie.Need-reduced-requires
-reduced-requires c κs = search needs
+reduced-requires c κs = c .pre .0
 
-mul-p : tie.Need-mul-p
-mul-p c = search needs
-
-slice-set-from-p : tie.Need-slice-set-from-p
-slice-set-from-p c = search needs
-
-mul-q : tie.Need-mul-q
-mul-q c = search needs
-
-slice-set-from-q : tie.Need-slice-set-from-q
-slice-set-from-q c = search needs
-
-mul-d : tie.Need-mul-d
-mul-d c = search needs
-
-slice-set-from-d : tie.Need-slice-set-from-d
-slice-set-from-d c = search needs
+store-line-requires : tie.Need-store-line-requires
+store-line-requires c κs = room-kept (c .before .before .before .before .pre .1) (omega arith) refl refl refl
 
 same-length : tie.Need-same-length
-same-length c = search needs
+same-length c = c .before .before .before .store-line .kept .0
 
 same-length-2 : tie.Need-same-length-2
-same-length-2 c = search needs
+same-length-2 c = c .before .before .before .store-line .kept .1 .0
 
 same-length-3 : tie.Need-same-length-3
-same-length-3 c = search needs
+same-length-3 c = c .before .before .before .store-line .kept .1 .1 .0
 
 returns : tie.Need-returns
 returns c =
-    let A = c .before .before .before .before .args in
-    row-put (c .before .before .before .reduced .ensures) (A .ps .now) (A .qs .now) (A .ds .now) (A .at)
+    let A = c .before .before .before .before .before .before .before .before .args in
+    let S = c .before .before .before .store-line in
+    subst (λ l. RowsSet (A .at) (l ∷ []) (A .ps .now) (A .qs .now) (A .ds .now) (S .last .0) (S .last .1 .0) (S .last .1 .1 .0)) (c .before .before .before .before .before .before .before .reduced .ensures .is) (S .ensures)
 
 pub put-spec : {M : Type 1} → statement M
-put-spec =
-    tie.close
-    (tie.spec
-    reduced-requires
-    mul-p
-    slice-set-from-p
-    mul-q
-    slice-set-from-q
-    mul-d
-    slice-set-from-d
-    same-length
-    same-length-2
-    same-length-3
-    returns)
+put-spec = tie.close (tie.spec reduced-requires store-line-requires same-length same-length-2 same-length-3 returns)

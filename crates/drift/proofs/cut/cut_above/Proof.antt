@@ -8,10 +8,10 @@ use Rattle.drift.proofs.cut.cut_above.Statement.{statement}
 use Rattle.drift.proofs.cut.cut_above.Tie as tie
 
 time-at-requires : tie.Need-time-at-requires
-time-at-requires c κs = search needs
+time-at-requires c κs = tt
 
 value-at-requires : tie.Need-value-at-requires
-value-at-requires c κs = search needs
+value-at-requires c κs = c .before .before .before .before .before .before .pre .0
 
 height-requires : tie.Need-height-requires
 height-requires c κs = search needs
@@ -20,10 +20,10 @@ height-requires-2 : tie.Need-height-requires-2
 height-requires-2 c κs = search needs
 
 alone-requires : tie.Need-alone-requires
-alone-requires c κs = search needs
+alone-requires c κs = tt
 
 cut-requires : tie.Need-cut-requires
-cut-requires c κs = search needs
+cut-requires c κs = c .before .before .before .before .before .before .before .before .before .before .before .before .pre
 
 returns : tie.Need-returns
 returns c =
@@ -35,7 +35,7 @@ returns c =
     above-one (s .pre .2) (height-test (ltZ (pos 0)) (s .args .x .fast) (F .result) t u (F .ensures) (F .ok)) (height-test (leZ (pos 0)) (s .args .x .slow) (S .result) t u (S .ensures) (S .ok)) (c .before .before .before .if1 .taken) (c .before .if2 .taken) (c .alone .ensures)
 
 same-length : tie.Need-same-length
-same-length c = search needs
+same-length c = c .before .before .cut .kept .1 .1 .1 .1 .0
 
 returns-2 : tie.Need-returns-2
 returns-2 c =

@@ -1,58 +1,55 @@
 -- `drift::filling::segment_from` meets its contract: what `run_from` found is the next segment, with the outlook that `outlook_of` gives its two lines.
 -- Assumes nothing.
 use mathlib.Core.Path.{_≡_, sym, ap, _∙_, subst}
-use Prim.Native.Nat.{ℕ, _+_, _-_, _≤_}
+use Prim.Native.Nat.{_-_}
 use native.Mathlib.Nat.{le-refl}
 use native.Mathlib.Omega.{arith}
-use borrow.Author.Needs.{needs}
-use lib.IntN.{ℤ}
 use lib.ListN.{getD}
 use mir.Syntax.{w32}
 use mir.Val.{toZ, ofZ}
 use mir.Facts.{toZ-ofZ}
 use Rattle.integers.specs.Bounds.{Within}
-use Rattle.definitions.specs.Spans.{mostValue, mostTime}
+use Rattle.definitions.specs.Spans.{mostValue}
 use Rattle.definitions.specs.Ranges.{Lists}
 use Rattle.definitions.specs.Corners.{reduced}
 use Rattle.trial_laws.specs.Inside.{value-inside}
 use Rattle.trial_laws.specs.Accepted.{AcceptedLists}
 use Rattle.drift.specs.Meanings.{lineOf, outlookOf, segmentOf}
 use Rattle.drift.specs.Reach.{lookAhead}
-use Rattle.drift.specs.RunsFrom.{RunFrom, PolygonAt}
 use Rattle.drift.specs.Filling.{NextSegment}
 use Rattle.drift.specs.NextSegments.{foundAt, next-open, next-lines}
 use Rattle.drift.proofs.filling.segment_from.Statement.{statement}
 use Rattle.drift.proofs.filling.segment_from.Tie as tie
 
 cast-n : tie.Need-cast-n
-cast-n c = search needs
+cast-n c = record { fits = omega (arith, c .before .before .before .pre .tried .lists-accepted .few) }
 
 cast-begin : tie.Need-cast-begin
-cast-begin c = search needs
+cast-begin c = record { fits = omega (arith, c .before .before .before .pre .tried .lists-accepted .few, c .before .before .before .pre .inside) }
 
 run-from-requires : tie.Need-run-from-requires
-run-from-requires c κs = let P = c .before .before .before .before .before .pre in (P .tried .lists-accepted, P .inside, le-refl _, P .chains .up-room, P .chains .down-room)
+run-from-requires c κs = let P = c .before .before .before .before .before .pre in (P .tried .lists-accepted, omega (arith, P .inside), le-refl _, P .chains .up-room, P .chains .down-room)
 
 mul-first-time : tie.Need-mul-first-time
-mul-first-time c = search needs
+mul-first-time c = record { fits = omega (arith, c .before .before .before .before .before .before .before .before .before .before .pre .tried .lists-accepted .few, c .before .before .before .before .before .before .before .before .before .before .pre .inside) }
 
 shared-slice-read-first-time : tie.Need-shared-slice-read-first-time
 shared-slice-read-first-time c = c .before .before .before .before .before .before .before .before .before .before .before .pre .inside
 
 cast-last-time : tie.Need-cast-last-time
-cast-last-time c = search needs
+cast-last-time c = record { fits = omega (arith, c .before .before .before .before .before .run-from .ensures .within, c .before .before .before .before .before .before .before .before .before .before .before .pre .tried .lists-accepted .few) }
 
 sub-last-time : tie.Need-sub-last-time
-sub-last-time c = search needs
+sub-last-time c = omega (arith, c .before .before .before .before .before .run-from .ensures .begins)
 
 mul-last-time : tie.Need-mul-last-time
-mul-last-time c = search needs
+mul-last-time c = record { fits = omega (arith, c .before .before .before .before .before .run-from .ensures .within, c .before .before .before .before .before .before .before .before .before .before .before .pre .tried .lists-accepted .few) }
 
 shared-slice-read-last-time : tie.Need-shared-slice-read-last-time
-shared-slice-read-last-time c = search needs
+shared-slice-read-last-time c = omega (arith, c .before .before .before .before .before .before .run-from .ensures .begins, c .before .before .before .before .before .before .run-from .ensures .within)
 
 sub-count : tie.Need-sub-count
-sub-count c = search needs
+sub-count c = omega (arith, c .before .before .before .before .before .before .run-from .ensures .begins)
 
 same-length : tie.Need-same-length
 same-length c = c .before .before .before .before .before .before .before .run-from .kept .1 .1 .1 .0

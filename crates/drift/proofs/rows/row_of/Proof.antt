@@ -1,9 +1,8 @@
--- `drift::rows::row_of` meets its contract: the case of the outlook is known in each arm, and a line's numbers are read back from their bits. Assumes nothing.
+-- `drift::rows::row_of` meets its contract: the case of the outlook is known in each arm. Assumes nothing.
 use mathlib.Core.Path.{sym, ap}
 use borrow.Author.Needs.{needs}
 use Rattle.definitions.specs.Results.{numbers, numbersOf}
 use Rattle.drift.specs.Meanings.{outlookOf, segmentOf}
-use Rattle.drift.proofs.Fields.{field-read}
 use Rattle.drift.proofs.rows.row_of.Statement.{statement}
 use Rattle.drift.proofs.rows.row_of.Tie as tie
 
@@ -28,18 +27,9 @@ returns c =
 returns-2 : tie.Need-returns-2
 unfolding numbersOf numbers segmentOf outlookOf
 returns-2 c =
-    let s = c .before .before .before .before .before .before .before .args .s in
-    let known = c .before .before .before .before .before .outlook .given in
-    rw (
-      field-read (known .0 .0 .p) (c .before .struct-told .given .0 .1),
-      field-read (known .0 .0 .q) (c .before .struct-told .given .1 .0 .1),
-      field-read (known .0 .0 .d) (c .before .struct-told .given .1 .1 .0 .1),
-      field-read (known .0 .1 .0 .p) (c .struct-told2 .given .0 .1),
-      field-read (known .0 .1 .0 .q) (c .struct-told2 .given .1 .0 .1),
-      field-read (known .0 .1 .0 .d) (c .struct-told2 .given .1 .1 .0 .1),
-      c .before .before .before .time-number .ensures,
-      c .before .before .time-number2 .ensures,
-    )
+    let s = c .before .before .before .before .before .args .s in
+    let known = c .before .before .before .outlook .given in
+    rw (c .before .time-number .ensures, c .time-number2 .ensures)
     (sym (ap (λ o. numbers (s .«first_time») (s .«last_time») (s .count) (outlookOf o)) (known .1)))
 
 pub row-of-spec : {M : Type 1} → statement M
