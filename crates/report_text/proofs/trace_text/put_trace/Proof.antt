@@ -1,5 +1,5 @@
 -- `report_text::trace_text::put_trace` meets its contract: Segment's refusal is told, or the heading and a line for each segment. Assumes nothing.
-use mathlib.Core.Path.{sym, subst}
+use mathlib.Core.Path.{refl, sym, _∙_, subst}
 use native.Mathlib.Omega.{arith}
 use lib.ListN.{length}
 use mir.Facts.{toZ-ofZ}
@@ -42,85 +42,85 @@ heading-put c =
 -- ---- the needs
 
 slice-aggregate-segment : tie.Need-slice-aggregate-segment
-slice-aggregate-segment c = search needs
+slice-aggregate-segment c = refl
 
 slice-aggregate-segment-2 : tie.Need-slice-aggregate-segment-2
-slice-aggregate-segment-2 c = search needs
+slice-aggregate-segment-2 c = refl
 
 slice-aggregate-segment-3 : tie.Need-slice-aggregate-segment-3
-slice-aggregate-segment-3 c = search needs
+slice-aggregate-segment-3 c = refl
 
 slice-aggregate-segment-4 : tie.Need-slice-aggregate-segment-4
-slice-aggregate-segment-4 c = search needs
+slice-aggregate-segment-4 c = refl
 
 slice-aggregate-segment-5 : tie.Need-slice-aggregate-segment-5
-slice-aggregate-segment-5 c = search needs
+slice-aggregate-segment-5 c = refl
 
 slice-aggregate-segment-6 : tie.Need-slice-aggregate-segment-6
-slice-aggregate-segment-6 c = search needs
+slice-aggregate-segment-6 c = refl
 
 slice-aggregate-segment-7 : tie.Need-slice-aggregate-segment-7
-slice-aggregate-segment-7 c = search needs
+slice-aggregate-segment-7 c = refl
 
 slice-aggregate-segment-8 : tie.Need-slice-aggregate-segment-8
-slice-aggregate-segment-8 c = search needs
+slice-aggregate-segment-8 c = refl
 
 slice-aggregate-segment-9 : tie.Need-slice-aggregate-segment-9
-slice-aggregate-segment-9 c = search needs
+slice-aggregate-segment-9 c = refl
 
 slice-aggregate-segment-10 : tie.Need-slice-aggregate-segment-10
-slice-aggregate-segment-10 c = search needs
+slice-aggregate-segment-10 c = refl
 
 slice-aggregate-segment-11 : tie.Need-slice-aggregate-segment-11
-slice-aggregate-segment-11 c = search needs
+slice-aggregate-segment-11 c = refl
 
 segment-requires : tie.Need-segment-requires
-segment-requires c κs = search needs
+segment-requires c κs = tt
 
 enum-known-answer : tie.Need-enum-known-answer
 enum-known-answer c = search needs
 
 put-refused-requires : tie.Need-put-refused-requires
-put-refused-requires c κs = search needs
+put-refused-requires c κs = omega (arith, c .before .before .before .before .before .before .before .before .before .before .before .before .before .before .before .before .before .before .before .before .before .before .before .before .before .before .before .before .before .pre)
 
 enum-known-answer-2 : tie.Need-enum-known-answer-2
 enum-known-answer-2 c = search needs
 
 put-heading-requires : tie.Need-put-heading-requires
-put-heading-requires c κs = search needs
+put-heading-requires c κs = omega (arith, c .before .before .before .before .before .before .before .before .before .before .before .before .before .before .before .before .before .before .before .before .before .before .before .before .before .before .before .before .before .pre)
 
 slice-aggregate-put-segments : tie.Need-slice-aggregate-put-segments
-slice-aggregate-put-segments c = search needs
+slice-aggregate-put-segments c = sym (c .before .before .before .before .before .before .before .before .before .before .before .before .before .before .before .before .before .before .before .before .segment .kept .1 .1 .1 .1 .0)
 
 slice-aggregate-put-segments-2 : tie.Need-slice-aggregate-put-segments-2
-slice-aggregate-put-segments-2 c = search needs
+slice-aggregate-put-segments-2 c = sym (c .before .before .before .before .before .before .before .before .before .before .before .before .before .before .before .before .before .before .before .before .before .segment .kept .1 .1 .1 .1 .1 .0)
 
 slice-aggregate-put-segments-3 : tie.Need-slice-aggregate-put-segments-3
-slice-aggregate-put-segments-3 c = search needs
+slice-aggregate-put-segments-3 c = sym (c .before .before .before .before .before .before .before .before .before .before .before .before .before .before .before .before .before .before .before .before .before .before .segment .kept .1 .1 .1 .1 .1 .1 .0)
 
 slice-aggregate-put-segments-4 : tie.Need-slice-aggregate-put-segments-4
-slice-aggregate-put-segments-4 c = search needs
+slice-aggregate-put-segments-4 c = sym (c .before .before .before .before .before .before .before .before .before .before .before .before .before .before .before .before .before .before .before .before .before .before .before .segment .kept .1 .1 .1 .1 .1 .1 .1 .0)
 
 slice-aggregate-put-segments-5 : tie.Need-slice-aggregate-put-segments-5
-slice-aggregate-put-segments-5 c = search needs
+slice-aggregate-put-segments-5 c = sym (c .before .before .before .before .before .before .before .before .before .before .before .before .before .before .before .before .before .before .before .before .before .before .before .before .segment .kept .1 .1 .1 .1 .1 .1 .1 .1 .0)
 
 slice-aggregate-put-segments-6 : tie.Need-slice-aggregate-put-segments-6
-slice-aggregate-put-segments-6 c = search needs
+slice-aggregate-put-segments-6 c = sym (c .before .before .before .before .before .before .before .before .before .before .before .before .before .before .before .before .before .before .before .before .before .before .before .before .before .segment .kept .1 .1 .1 .1 .1 .1 .1 .1 .1 .0)
 
 slice-aggregate-put-segments-7 : tie.Need-slice-aggregate-put-segments-7
-slice-aggregate-put-segments-7 c = search needs
+slice-aggregate-put-segments-7 c = sym (c .before .before .before .before .before .before .before .before .before .before .before .before .before .before .before .before .before .before .before .before .before .before .before .before .before .before .segment .kept .1 .1 .1 .1 .1 .1 .1 .1 .1 .1 .0)
 
 slice-aggregate-put-segments-8 : tie.Need-slice-aggregate-put-segments-8
-slice-aggregate-put-segments-8 c = search needs
+slice-aggregate-put-segments-8 c = sym (c .before .before .before .before .before .before .before .before .before .before .before .before .before .before .before .before .before .before .before .before .before .before .before .before .before .before .before .segment .kept .1 .1 .1 .1 .1 .1 .1 .1 .1 .1 .1 .0)
 
 slice-aggregate-put-segments-9 : tie.Need-slice-aggregate-put-segments-9
-slice-aggregate-put-segments-9 c = search needs
+slice-aggregate-put-segments-9 c = sym (c .before .before .before .before .before .before .before .before .before .before .before .before .before .before .before .before .before .before .before .before .before .before .before .before .before .before .before .before .segment .kept .1 .1 .1 .1 .1 .1 .1 .1 .1 .1 .1 .1 .0)
 
 slice-aggregate-put-segments-10 : tie.Need-slice-aggregate-put-segments-10
-slice-aggregate-put-segments-10 c = search needs
+slice-aggregate-put-segments-10 c = sym (c .before .before .before .before .before .before .before .before .before .before .before .before .before .before .before .before .before .before .before .before .before .before .before .before .before .before .before .before .before .segment .kept .1 .1 .1 .1 .1 .1 .1 .1 .1 .1 .1 .1 .1 .0)
 
 slice-aggregate-put-segments-11 : tie.Need-slice-aggregate-put-segments-11
-slice-aggregate-put-segments-11 c = search needs
+slice-aggregate-put-segments-11 c = sym (c .before .before .before .before .before .before .before .before .before .before .before .before .before .before .before .before .before .before .before .before .before .before .before .before .before .before .before .before .before .before .segment .kept .1 .1 .1 .1 .1 .1 .1 .1 .1 .1 .1 .1 .1 .1 .0)
 
 put-segments-requires : tie.Need-put-segments-requires
 put-segments-requires c κs =
@@ -133,7 +133,7 @@ put-segments-requires c κs =
     record { few = few; rows-in = rows; room = omega (arith, few, s .pre, heading .put-heading .ensures .1, put-length (heading-put heading)) }
 
 same-length : tie.Need-same-length
-same-length c = search needs
+same-length c = c .before .before .put-refused .kept .0
 
 returns : tie.Need-returns
 returns c =
@@ -143,7 +143,7 @@ returns c =
     subst (λ bs. Put 0 bs (s .args .text .now) (told .put-refused .result) (told .put-refused .last .0)) (sym (text-refused (refuses answer) (s .args .address) zero-lengths)) (told .put-refused .ensures)
 
 same-length-2 : tie.Need-same-length-2
-same-length-2 c = search needs
+same-length-2 c = c .before .before .put-segments .kept .0 ∙ c .before .before .before .before .before .before .before .before .before .before .before .before .before .before .before .before .before .put-heading .kept .0
 
 returns-2 : tie.Need-returns-2
 returns-2 c =
