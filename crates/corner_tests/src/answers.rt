@@ -117,31 +117,16 @@ fn tell_end(answer: CornersAnswer, seen: Seen) {
     say(b"\n");
 }
 
-// Calls Corners, and writes all there is to its answer on a line.
-fn tell_call(
-    k: usize,
-    times: &[u32],
-    lows: &[i32],
-    highs: &[i32],
-    ps: &mut [i64],
-    qs: &mut [i64],
-    ds: &mut [i64],
-) {
+// Calls Corners, and writes all there is to its answer on a line. The slices are as long as they have to be, but for
+// one of them, counted from 0, that is one too short; from 3 on, none is.
+pub fn tell(short: usize, k: usize, times: &[u32], lows: &[i32], highs: &[i32]) {
     say(b"after ");
     number(k as u64);
     say(b":");
-    let answer = corners(k, times, lows, highs, ps, qs, ds);
-    let seen = see_all(count_of(answer), ps, qs, ds);
-    tell_end(answer, seen);
-}
-
-// The same with slices as long as they have to be, but for one of them, counted from 0, that is one too short.
-// From 3 on, none is.
-pub fn tell(short: usize, k: usize, times: &[u32], lows: &[i32], highs: &[i32]) {
     let mut ps = [OLD; ROOM];
     let mut qs = [OLD; ROOM];
     let mut ds = [OLD; ROOM];
-    tell_call(
+    let answer = corners(
         k,
         times,
         lows,
@@ -150,4 +135,6 @@ pub fn tell(short: usize, k: usize, times: &[u32], lows: &[i32], highs: &[i32]) 
         lent_numbers(&mut qs, short == 1),
         lent_numbers(&mut ds, short == 2),
     );
+    let seen = see_all(count_of(answer), &ps, &qs, &ds);
+    tell_end(answer, seen);
 }

@@ -111,60 +111,8 @@ fn see_all(
     seen
 }
 
-// Calls Segment, and writes all there is to its answer.
-fn tell_call(
-    level: i32,
-    times: &[u32],
-    lows: &[i32],
-    highs: &[i32],
-    first_times: &mut [u32],
-    last_times: &mut [u32],
-    counts: &mut [u32],
-    slow_ps: &mut [i64],
-    slow_qs: &mut [i64],
-    slow_ds: &mut [i64],
-    fast_ps: &mut [i64],
-    fast_qs: &mut [i64],
-    fast_ds: &mut [i64],
-    somes: &mut [u64],
-    alls: &mut [u64],
-) {
-    let answer = segment(
-        level,
-        times,
-        lows,
-        highs,
-        first_times,
-        last_times,
-        counts,
-        slow_ps,
-        slow_qs,
-        slow_ds,
-        fast_ps,
-        fast_qs,
-        fast_ds,
-        somes,
-        alls,
-    );
-    let seen = see_all(
-        count_of(answer),
-        first_times,
-        last_times,
-        counts,
-        slow_ps,
-        slow_qs,
-        slow_ds,
-        fast_ps,
-        fast_qs,
-        fast_ds,
-        somes,
-        alls,
-    );
-    tell_end(answer, seen);
-}
-
-// The same with slices as long as they have to be, but for one of them, counted from 0, that is one too short.
-// From 11 on, none is.
+// Calls Segment, and writes all there is to its answer. The slices are as long as they have to be, but for one of
+// them, counted from 0, that is one too short; from 11 on, none is.
 pub fn tell(short: usize, level: i32, times: &[u32], lows: &[i32], highs: &[i32]) {
     let mut first_times = [OLD; ROOM];
     let mut last_times = [OLD; ROOM];
@@ -177,7 +125,7 @@ pub fn tell(short: usize, level: i32, times: &[u32], lows: &[i32], highs: &[i32]
     let mut fast_ds = [OLD_SIGNED; ROOM];
     let mut somes = [OLD_LONG; ROOM];
     let mut alls = [OLD_LONG; ROOM];
-    tell_call(
+    let answer = segment(
         level,
         times,
         lows,
@@ -194,4 +142,19 @@ pub fn tell(short: usize, level: i32, times: &[u32], lows: &[i32], highs: &[i32]
         lent_long_times(&mut somes, short == 9),
         lent_long_times(&mut alls, short == 10),
     );
+    let seen = see_all(
+        count_of(answer),
+        &first_times,
+        &last_times,
+        &counts,
+        &slow_ps,
+        &slow_qs,
+        &slow_ds,
+        &fast_ps,
+        &fast_qs,
+        &fast_ds,
+        &somes,
+        &alls,
+    );
+    tell_end(answer, seen);
 }
