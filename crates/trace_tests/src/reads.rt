@@ -5,9 +5,7 @@ use crate::making::put_sample;
 use crate::telling::contents;
 use crate::telling::lists_digest;
 use crate::telling::number;
-use crate::telling::say;
 use crate::telling::signed_number;
-use crate::telling::time_at;
 use crate::telling::title;
 use crate::telling::title_of_three;
 use crate::telling::value_at;
@@ -15,6 +13,8 @@ use crate::telling::wide;
 use fields::numbers::write_u8;
 use fields::parts::byte_at;
 use fields::parts::part;
+use testing::lists::time_or;
+use testing::telling::say;
 use trace::ReadAnswer;
 use trace::read;
 
@@ -44,7 +44,7 @@ pub fn tell_read(file: &[u8], times: &mut [u32], lows: &mut [i32], highs: &mut [
 
 fn tell_range(times: &[u32], lows: &[i32], highs: &[i32], k: usize) {
     say(b"  range");
-    number(wide(time_at(times, k)));
+    number(wide(time_or(times, k, 0)));
     signed_number(value_at(lows, k));
     signed_number(value_at(highs, k));
     say(b"\n");

@@ -1,26 +1,19 @@
 // What is written of a trial.
 use fields::numbers::unsigned;
 use fields::parts::byte_at;
-
-pub fn say(text: &[u8]) {
-    io::write_all(1, text);
-}
+use testing::lists::time_or;
+use testing::telling::say;
 
 // A space, and a number.
 pub fn number(n: u64) {
     say(b" ");
-    io::print_decimal(1, n);
+    testing::telling::number(n);
 }
 
 // A space, and a number that may be below 0.
 pub fn signed_number(x: i32) {
-    let bits = unsigned(x);
-    if bits < 2147483648 {
-        number(wide(bits));
-    } else {
-        say(b" -");
-        io::print_decimal(1, 4294967296 - bits as u64);
-    }
+    say(b" ");
+    testing::telling::signed_number(x as i64);
 }
 
 // What a trial is of: words and a number, or three.
@@ -53,33 +46,10 @@ pub fn wide(x: u32) -> u64 {
     x as u64
 }
 
-// ---- lists
-
 // Entry k of a list; past the end, 0.
-pub fn time_at(times: &[u32], k: usize) -> u32 {
-    if k < times.len() { times[k] } else { 0 }
-}
-
 pub fn value_at(values: &[i32], k: usize) -> i32 {
     if k < values.len() { values[k] } else { 0 }
 }
-
-// The first n entries of a list, or as many as there are.
-pub fn first_times(times: &[u32], n: usize) -> &[u32] {
-    if n <= times.len() {
-        return &times[..n];
-    }
-    times
-}
-
-pub fn first_values(values: &[i32], n: usize) -> &[i32] {
-    if n <= values.len() {
-        return &values[..n];
-    }
-    values
-}
-
-// ---- digests
 
 // A byte or a number more.
 fn mixed(digest: u64, x: u64) -> u64 {
@@ -87,7 +57,7 @@ fn mixed(digest: u64, x: u64) -> u64 {
 }
 
 fn with_range(digest: u64, times: &[u32], lows: &[i32], highs: &[i32], k: usize) -> u64 {
-    let time = mixed(digest, wide(time_at(times, k)));
+    let time = mixed(digest, wide(time_or(times, k, 0)));
     let low = mixed(time, wide(unsigned(value_at(lows, k))));
     mixed(low, wide(unsigned(value_at(highs, k))))
 }

@@ -3,13 +3,13 @@ use crate::making::put_sample;
 use crate::reads::tell_read;
 use crate::telling::bytes_digest;
 use crate::telling::contents;
-use crate::telling::first_times;
-use crate::telling::first_values;
 use crate::telling::number;
-use crate::telling::say;
 use crate::telling::signed_number;
 use crate::telling::title_of_three;
 use fields::parts::part;
+use testing::lists::first_times;
+use testing::lists::first_values;
+use testing::telling::say;
 use trace::WriteAnswer;
 use trace::write;
 
