@@ -33,7 +33,7 @@ use Rattle.drift_laws.specs.LineRows.{RowRoom, RowsSet, RowsFirst, rows-none, r
 use Rattle.drift.specs.declared.values.Line.{Line}
 use Rattle.drift.specs.declared.chain.Polygon.{Polygon}
 use Rattle.drift.specs.Meanings.{lineOf}
-use Rattle.drift.specs.Small.{Bounded, Small, small}
+use Rattle.drift.specs.Small.{Bounded, Small}
 use Rattle.drift.specs.Polygons.{polygonOf, Shape}
 
 -- ---- one chain
@@ -46,7 +46,7 @@ listed-none f a ps qs ds at = record { rows = subst (λ ls. RowsSet at (map redu
 
 -- the line through neighbours is small where times rise
 pub joined-small : {f : ℕ → Point} {a b : ℕ} (j : ℕ) → Rises f a b → a < j → j < b → {l : Line} → Bounded l → lineOf l ≡ through (f (j - 1)) (f j) → Small l
-joined-small j r lo hi k e = small k (subst (λ m. pos 0 <ℤ m .d) (sym e) (r .each j lo hi))
+joined-small j r lo hi k e = record { bounds = k; d-above-0 = subst (λ m. pos 0 <ℤ m .d) (sym e) (r .each j lo hi) }
 
 pub listed-more : {f : ℕ → Point} {a j : ℕ} → a < j → {ps qs ds : List ℤ} {at : ℕ} {pt qt dt : List ℤ} {n : ℕ} (l : Line) → ChainListed f a j ps qs ds at pt qt dt n
     → lineOf l ≡ through (f (j - 1)) (f j)
@@ -93,7 +93,7 @@ module _ {x : Polygon} {m n : ℕ} (s : Shape x m n) where
 
 module _ {ts : List ℕ} {gs es : List ℤ} {up down : List ℕ} {x : Polygon} {m n : ℕ} (s : Shape x m n) (h : ProperCorners ts gs es up down x) where
   pub slow-small : Small (x .slow)
-  slow-small = small (s .slow-in) (All-in (h .each) (list-slow (polygonOf false ts gs es up down x)))
+  slow-small = record { bounds = s .slow-in; d-above-0 = All-in (h .each) (list-slow (polygonOf false ts gs es up down x)) }
 
   module _ {steep : Bool} (e : steep ≡ ltZ (pos 0) (turn (lineOf (x .slow)) (lineOf (x .fast)))) where
     pub corner-one : steep ≡ false → {ps qs ds pt qt dt : List ℤ} → RowRoom (points x) ps qs ds → RowsSet 0 (reduced (lineOf (x .slow)) ∷ []) ps qs ds pt qt dt
@@ -121,7 +121,7 @@ module _ {ts : List ℕ} {gs es : List ℤ} {up down : List ℕ} {x : Polygon} {
       after-upper = All-append-right (linesOf (between (ofChain false ts gs up) (x .upper .start) (x .upper .end))) _ proper
 
       pub fast-small : Small (x .fast)
-      fast-small = small (s .fast-in) (All-head after-upper)
+      fast-small = record { bounds = s .fast-in; d-above-0 = All-head after-upper }
 
       pub lower-rises : Rises (ofChain false ts es down) (x .lower .start) (x .lower .end)
       lower-rises = rises-of (ofChain false ts es down) (x .lower .start) (x .lower .end) (s .down) (All-tail after-upper)

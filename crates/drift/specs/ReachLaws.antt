@@ -22,21 +22,22 @@ use Rattle.definitions.specs.Spans.{mostTime}
 use Rattle.definitions.specs.Times.{Time, none, at}
 use Rattle.definitions.specs.Lines.{Line, reading}
 use Rattle.definitions.specs.Outlook.{lines}
-use Rattle.drift.specs.Reach.{BelowAt, reachTime, lookAhead}
+use Rattle.lines.specs.OutlookTimes.{reachTime}
+use Rattle.drift.specs.Reach.{BelowAt, lookAhead}
 
 abbrev pub crossingOf : Line → ℤ → ℤ
 crossingOf l level = ceilDiv (l .d *ℤ level -ℤ l .q) (l .p)
 
 module _ (l : Line) (level : ℤ) (from : ℕ) (in-time : from ≤ mostTime) where
-  reach-is : {r : Time} → IsLeast (Reaches (l .p) (l .q) (l .d *ℤ level)) from mostTime r → reachTime l level from ≡ r
+  reach-is : {r : Time} → IsLeast (Reaches (l .p) (l .q) (l .d *ℤ level)) from mostTime r → reachTime level from l ≡ r
   reach-is h = least-unique (firstReach-is (l .p) (l .q) (l .d *ℤ level) from mostTime in-time) h
 
-  pub reach-now : (l .d *ℤ level) ≤ℤ reading l from → reachTime l level from ≡ at from
+  pub reach-now : (l .d *ℤ level) ≤ℤ reading l from → reachTime level from l ≡ at from
   unfolding reading
   reach-now reached = reach-is (least-at from (NatL.le-refl from) in-time reached (λ s a b. absurd (omega arith)))
 
   module _ (under : BelowAt l level from) where
-    pub reach-falling : (l .p) ≤ℤ pos 0 → reachTime l level from ≡ none
+    pub reach-falling : (l .p) ≤ℤ pos 0 → reachTime level from l ≡ none
     unfolding reading
     reach-falling falls = reach-is (reach-never (l .p) (l .q) (l .d *ℤ level) from mostTime falls under)
 
@@ -48,18 +49,18 @@ module _ (l : Line) (level : ℤ) (from : ℕ) (in-time : from ≤ mostTime) whe
       pub crossing-nonneg : pos 0 ≤ℤ crossingOf l level
       crossing-nonneg = rw is-crossing (omega ints)
 
-      pub reach-rising : crossingOf l level ≤ℤ pos mostTime → reachTime l level from ≡ at (natAbs (crossingOf l level))
+      pub reach-rising : crossingOf l level ≤ℤ pos mostTime → reachTime level from l ≡ at (natAbs (crossingOf l level))
       unfolding reading
       reach-rising early =
           let early-c : crossing (l .p) (l .q) (l .d *ℤ level) ≤ mostTime = omega (ints, is-crossing) in
           reach-is (reach-after (l .p) (l .q) (l .d *ℤ level) from mostTime rises under early-c)
           ∙ ap (λ z. at (natAbs z)) (sym is-crossing)
 
-      pub reach-late : pos mostTime <ℤ crossingOf l level → reachTime l level from ≡ none
+      pub reach-late : pos mostTime <ℤ crossingOf l level → reachTime level from l ≡ none
       unfolding reading
       reach-late late =
           let late-c : mostTime < crossing (l .p) (l .q) (l .d *ℤ level) = omega (ints, is-crossing) in
           reach-is (reach-too-late (l .p) (l .q) (l .d *ℤ level) from mostTime rises late-c)
 
-pub look-by : {k l k′ l′ : Line} {level z : ℤ} (last : ℕ) {some all : Time} → k ≡ k′ → l ≡ l′ → z ≡ level → some ≡ reachTime l z last → all ≡ reachTime k z last → lines k l some all ≡ lookAhead k′ l′ level last
+pub look-by : {k l k′ l′ : Line} {level z : ℤ} (last : ℕ) {some all : Time} → k ≡ k′ → l ≡ l′ → z ≡ level → some ≡ reachTime z last l → all ≡ reachTime z last k → lines k l some all ≡ lookAhead k′ l′ level last
 look-by {k} {l} {z} last slow fast same some all = ap₂ (λ s a. lines k l s a) some all ∙ λ i. lookAhead (slow i) (fast i) (same i) last

@@ -36,7 +36,7 @@ module _ {l : Line} {t : ℕ} (s : Small l) (h : Fits w32 t) where
   time-in = rw time-is (in-up (in-lit (pos t)) (omega arith))
 
   pub reading-sizes : Env (l .p ∷ l .q ∷ toZ w64 t ∷ []) (upto mostSlope ∷ upto mostIntercept ∷ upto mostTime ∷ [])
-  reading-sizes = s .p-in ▹ s .q-in ▹ time-in ▹ end
+  reading-sizes = s .bounds .p-in ▹ s .bounds .q-in ▹ time-in ▹ end
 
   pub reading-is : computedReading l t ≡ reading (lineOf l) t
   unfolding reading
@@ -56,7 +56,7 @@ module _ {l : Line} {level : ℤ} (s : Small l) (k : Within mostValue level) whe
   level-is = read-back w32 k tt
 
   pub scaled-sizes : Env (l .d ∷ l .q ∷ as-i32 level ∷ []) (upto mostTime ∷ upto mostIntercept ∷ upto mostValue ∷ [])
-  scaled-sizes = s .d-in ▹ s .q-in ▹ read-in w32 k tt ▹ end
+  scaled-sizes = s .bounds .d-in ▹ s .bounds .q-in ▹ read-in w32 k tt ▹ end
 
   pub scaled-is : computedScaled l level ≡ l .d *ℤ level
   scaled-is =

@@ -36,7 +36,7 @@ divisor-of s p q r d h =
     record {
       is =
           h
-          ∙ ap₂ gcd (r ∙ ap₂ gcd (p ∙ ap natAbs (read-back w64 (s .p-in) tt)) (q ∙ ap natAbs (read-back w64 (s .q-in) tt))) (d ∙ ap natAbs (read-back w64 (s .d-in) tt));
+          ∙ ap₂ gcd (r ∙ ap₂ gcd (p ∙ ap natAbs (read-back w64 (s .bounds .p-in) tt)) (q ∙ ap natAbs (read-back w64 (s .bounds .q-in) tt))) (d ∙ ap natAbs (read-back w64 (s .bounds .d-in) tt));
     }
 
 -- x / n as it is computed
@@ -45,7 +45,7 @@ dividedBy n x = as-i64 (quotZ (as-i64 x) (toZ w64 n))
 
 module _ {l : Line} {n : ℕ} (s : Small l) (g : DivisorOf l n) where
   pub divisor-in : Within mostTime (pos n)
-  divisor-in = record { within = omega (arith, g .is, commonDivisor-le (l .p) (l .q) (l .d) (s .d-above-0), s .d-in .within) }
+  divisor-in = record { within = omega (arith, g .is, commonDivisor-le (l .p) (l .q) (l .d) (s .d-above-0), s .bounds .d-in .within) }
 
   above-0 : 0 < n
   above-0 = rw (g .is) (commonDivisor-above-0 (l .p) (l .q) (l .d) (s .d-above-0))
@@ -67,17 +67,15 @@ module _ {l : Line} {n : ℕ} (s : Small l) (g : DivisorOf l n) where
   pub reduced-by : Reduced l (record { p = dividedBy n (l .p); q = dividedBy n (l .q); d = dividedBy n (l .d) })
   unfolding reduced
   reduced-by =
-      let p-is = divided-is (s .p-in) tt in
-      let q-is = divided-is (s .q-in) tt in
-      let d-is = divided-is (s .d-in) tt in
+      let p-is = divided-is (s .bounds .p-in) tt in
+      let q-is = divided-is (s .bounds .q-in) tt in
+      let d-is = divided-is (s .bounds .d-in) tt in
       let m = pos (commonDivisor (l .p) (l .q) (l .d)) in
       record {
         is = λ i. record { p = p-is i; q = q-is i; d = d-is i };
         small =
             record {
-              p-in = rw p-is (in-quot m (s .p-in));
-              q-in = rw q-is (in-quot m (s .q-in));
-              d-in = rw d-is (in-quot m (s .d-in));
+              bounds = record { p-in = rw p-is (in-quot m (s .bounds .p-in)); q-in = rw q-is (in-quot m (s .bounds .q-in)); d-in = rw d-is (in-quot m (s .bounds .d-in)) };
               d-above-0 = rw d-is (divided-lowest (l .p) (l .q) (l .d) (s .d-above-0) .above-0);
             };
       }

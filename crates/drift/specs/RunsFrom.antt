@@ -33,7 +33,7 @@ use Rattle.drift.specs.declared.values.Line.{Line}
 use Rattle.drift.specs.declared.chain.Polygon.{Polygon}
 use Rattle.drift.specs.declared.run.Reach.{Reach}
 use Rattle.drift.specs.Meanings.{lineOf}
-use Rattle.drift.specs.Small.{Small, small}
+use Rattle.drift.specs.Small.{Small}
 use Rattle.drift.specs.Polygons.{polygonOf, Shape, shape-more}
 use Rattle.drift.specs.Joins.{JoinedAt, StartedAt}
 
@@ -132,8 +132,8 @@ module _ {ls : Lists} (a : AcceptedLists ls) where
           is = z .is;
           slow-is = slow-is;
           fast-is = fast-is;
-          slow-small = small (z .shape .slow-in) (subst (λ l. pos 0 <ℤ l .d) (sym slow-is) (slow-fits (rangeAt ls i) (rangeAt ls (i + 1)) (run ls (i + 2) k) in-order has-line .positive));
-          fast-small = small (z .shape .fast-in) (subst (λ l. pos 0 <ℤ l .d) (sym fast-is) (fast-fits (rangeAt ls i) (rangeAt ls (i + 1)) (run ls (i + 2) k) in-order has-line .positive));
+          slow-small = record { bounds = z .shape .slow-in; d-above-0 = subst (λ l. pos 0 <ℤ l .d) (sym slow-is) (slow-fits (rangeAt ls i) (rangeAt ls (i + 1)) (run ls (i + 2) k) in-order has-line .positive) };
+          fast-small = record { bounds = z .shape .fast-in; d-above-0 = subst (λ l. pos 0 <ℤ l .d) (sym fast-is) (fast-fits (rangeAt ls i) (rangeAt ls (i + 1)) (run ls (i + 2) k) in-order has-line .positive) };
           shape = z .shape;
         }
 

@@ -2,8 +2,7 @@
 --
 --     mostSlope, mostIntercept     |p| ≤ 2^29 and |q| ≤ 2^61, as p is a difference of two values, and q one of two products of a value and a time
 --     Bounded l        l is within them, and d is within the greatest time
---     Small l          the same, and d is above 0
---     small            a bounded line with d above 0 is small
+--     Small l          l is within them, and d is above 0
 --     Reduced l r      r is l in lowest terms, and within them as l is
 --
 -- A line that code makes of two range numbers is bounded whatever these are; that its d is above 0 is known once it is a line of the fit.
@@ -30,13 +29,8 @@ pub record Bounded (l : Line) : Type 0 where
   pub d-in : Within mostTime (l .d)
 
 pub record Small (l : Line) : Type 0 where
-  pub p-in : Within mostSlope (l .p)
-  pub q-in : Within mostIntercept (l .q)
-  pub d-in : Within mostTime (l .d)
+  pub bounds : Bounded l
   pub d-above-0 : pos 0 <ℤ (l .d)
-
-pub small : {l : Line} → Bounded l → pos 0 <ℤ (l .d) → Small l
-small b h = record { p-in = b .p-in; q-in = b .q-in; d-in = b .d-in; d-above-0 = h }
 
 pub record Reduced (l r : Line) : Type 0 where
   pub is : lineOf r ≡ reduced (lineOf l)

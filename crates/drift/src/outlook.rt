@@ -3,9 +3,10 @@ ghost use mathlib.Core.Path.{_≡_};
 ghost use Rattle.integers.specs.Bounds.{Within};
 ghost use Rattle.definitions.specs.Spans.{mostValue};
 ghost use Rattle.definitions.specs.Corners.{reduced as reducedOf};
+ghost use Rattle.lines.specs.OutlookTimes.{reachTime};
 ghost use Rattle.drift.specs.Meanings.{lineOf, timeOf, outlookOf};
 ghost use Rattle.drift.specs.Small.{Small};
-ghost use Rattle.drift.specs.Reach.{reachTime, lookAhead, BelowAt};
+ghost use Rattle.drift.specs.Reach.{lookAhead, BelowAt};
 use crate::line::reduced;
 use crate::numbers::ceil_div;
 use crate::values::Line;
@@ -18,7 +19,7 @@ const MOST_TIME: i64 = 4294967295;
 // When a line that is below the level at `from` reaches it: at (d·level − q)/p rounded up, if the line rises and that is a time at all.
 fn crossing_time(l: Line, level: i32, from: u32) -> Time
     requires { ⌜ (Small l) × (Within mostValue level) × (BelowAt (lineOf l) level from) ⌝ }
-    ensures { λ r. ⌜ timeOf r ≡ reachTime (lineOf l) level from ⌝ }
+    ensures { λ r. ⌜ timeOf r ≡ reachTime level from (lineOf l) ⌝ }
 {
     let p = l.p;
     if 0 < p {
@@ -36,7 +37,7 @@ fn crossing_time(l: Line, level: i32, from: u32) -> Time
 // The first time from `from` on at which the line is at or above the level.
 pub fn reach_time(l: Line, level: i32, from: u32) -> Time
     requires { ⌜ (Small l) × (Within mostValue level) ⌝ }
-    ensures { λ r. ⌜ timeOf r ≡ reachTime (lineOf l) level from ⌝ }
+    ensures { λ r. ⌜ timeOf r ≡ reachTime level from (lineOf l) ⌝ }
 {
     let s = l.side(level, from);
     match s {

@@ -8,16 +8,16 @@ use Rattle.drift.proofs.line.reduced.Statement.{statement}
 use Rattle.drift.proofs.line.reduced.Tie as tie
 
 size-requires : tie.Need-size-requires
-size-requires c κs = in-wide (read-in w64 (c .before .pre .p-in) tt) tt
+size-requires c κs = in-wide (read-in w64 (c .before .pre .bounds .p-in) tt) tt
 
 size-requires-2 : tie.Need-size-requires-2
-size-requires-2 c κs = in-wide (read-in w64 (c .before .before .before .pre .q-in) tt) tt
+size-requires-2 c κs = in-wide (read-in w64 (c .before .before .before .pre .bounds .q-in) tt) tt
 
 gcd-requires : tie.Need-gcd-requires
 gcd-requires c κs = tt
 
 size-requires-3 : tie.Need-size-requires-3
-size-requires-3 c κs = in-wide (read-in w64 (c .before .before .before .before .before .before .pre .d-in) tt) tt
+size-requires-3 c κs = in-wide (read-in w64 (c .before .before .before .before .before .before .pre .bounds .d-in) tt) tt
 
 gcd-requires-2 : tie.Need-gcd-requires-2
 gcd-requires-2 c κs = tt
@@ -33,13 +33,13 @@ cast-g : tie.Need-cast-g
 cast-g c = fits (divisor-in (small c) (divisor c)) tt
 
 div-t8 : tie.Need-div-t8
-div-t8 c = let a = c .before .before in divided-fits (small a) (divisor a) (small a .p-in) tt
+div-t8 c = let a = c .before .before in divided-fits (small a) (divisor a) (small a .bounds .p-in) tt
 
 div-t9 : tie.Need-div-t9
-div-t9 c = let a = c .before .before .before .before in divided-fits (small a) (divisor a) (small a .q-in) tt
+div-t9 c = let a = c .before .before .before .before in divided-fits (small a) (divisor a) (small a .bounds .q-in) tt
 
 div-t10 : tie.Need-div-t10
-div-t10 c = let a = c .before .before .before .before .before .before in divided-fits (small a) (divisor a) (small a .d-in) tt
+div-t10 c = let a = c .before .before .before .before .before .before in divided-fits (small a) (divisor a) (small a .bounds .d-in) tt
 
 returns : tie.Need-returns
 returns c = let a = c .before .before .before .before .before .before in reduced-by (small a) (divisor a)

@@ -29,18 +29,18 @@ sub-ceil-div : tie.Need-sub-ceil-div
 sub-ceil-div c = no-overflow! (scaled-sizes (c .before .before .before .before .before .before .pre .0) (c .before .before .before .before .before .before .pre .1)) (search reads depth 30) tt
 
 rises : (c : tie.Then1) → pos 0 <ℤ (c .before .before .args .l .p)
-rises c = machine-linear! (c .before .before .pre .0 .p-in ▹ end) (c .if1 .taken) (search tests depth 30) tt (omega arith)
+rises c = machine-linear! (c .before .before .pre .0 .bounds .p-in ▹ end) (c .if1 .taken) (search tests depth 30) tt (omega arith)
 
 ceil-div-requires : tie.Need-ceil-div-requires
 ceil-div-requires c κs =
     let s = c .before .before .before .before .before .before in
-    (rest-in (s .pre .0) (s .pre .1), rw (read-back w64 (s .pre .0 .p-in) tt) (rises (c .before .before .before .before)))
+    (rest-in (s .pre .0) (s .pre .1), rw (read-back w64 (s .pre .0 .bounds .p-in) tt) (rises (c .before .before .before .before)))
 
 -- what is tested and cast is the time at which the line reaches the level
 quotient-is : (c : tie.After-ceil-div) → as-i64 (c .ceil-div .result) ≡ crossingOf (lineOf (c .before .before .before .before .before .before .before .args .l)) (c .before .before .before .before .before .before .before .args .level)
 quotient-is c =
     let s = c .before .before .before .before .before .before .before in
-    toZ-ofZ (record { sfits = c .ceil-div .ok }) ∙ c .ceil-div .ensures ∙ ap₂ (λ x y. ceilDiv x y) (rest-is (s .pre .0) (s .pre .1)) (read-back w64 (s .pre .0 .p-in) tt)
+    toZ-ofZ (record { sfits = c .ceil-div .ok }) ∙ c .ceil-div .ensures ∙ ap₂ (λ x y. ceilDiv x y) (rest-is (s .pre .0) (s .pre .1)) (read-back w64 (s .pre .0 .bounds .p-in) tt)
 
 early : (c : tie.Then2) → crossingOf (lineOf (c .before .before .before .before .before .before .before .before .args .l)) (c .before .before .before .before .before .before .before .before .args .level) ≤ℤ pos mostTime
 early c = subst (λ z. z ≤ℤ pos mostTime) (quotient-is (c .before)) (leZ-yes (true→T (c .if2 .taken)))
@@ -69,7 +69,7 @@ returns-3 : tie.Need-returns-3
 unfolding timeOf
 returns-3 c =
     let s = c .before .before in
-    let falls : (s .args .l .p) ≤ℤ pos 0 = machine-linear! (s .pre .0 .p-in ▹ end) (c .if1 .left) (search tests depth 30) tt (omega arith) in
+    let falls : (s .args .l .p) ≤ℤ pos 0 = machine-linear! (s .pre .0 .bounds .p-in ▹ end) (c .if1 .left) (search tests depth 30) tt (omega arith) in
     sym (reach-falling (lineOf (s .args .l)) (s .args .level) (s .args .from) (omega arith) (s .pre .2) falls)
 
 pub crossing-time-spec : {M : Type 1} → statement M

@@ -14,7 +14,7 @@ use Rattle.drift.specs.declared.values.Side.the-variants.{Below, On, Abo
 use Rattle.drift.specs.Meanings.{lineOf, sideOf, timeOf}
 use Rattle.drift.specs.Signed.{read-back}
 use Rattle.drift.specs.Sides.{below-is, reached-is}
-use Rattle.drift.specs.Reach.{reachTime}
+use Rattle.lines.specs.OutlookTimes.{reachTime}
 use Rattle.drift.specs.ReachLaws.{reach-now}
 use Rattle.drift.proofs.outlook.reach_time.Statement.{statement}
 use Rattle.drift.proofs.outlook.reach_time.Tie as tie
@@ -38,7 +38,7 @@ crossing-time-requires c κs =
 returns : tie.Need-returns
 returns c =
     let s = c .before .before .before .before in
-    c .crossing-time .ensures ∙ ap (λ z. reachTime (lineOf (s .args .l)) z (s .args .from)) (read-back w32 (s .pre .1) tt)
+    c .crossing-time .ensures ∙ ap (λ z. reachTime z (s .args .from) (lineOf (s .args .l))) (read-back w32 (s .pre .1) tt)
 
 -- the second arm is that of the variants 1 and 2
 second-arm : (s : Side) → OneOf (1 ∷ 2 ∷ []) (tagOf the-type s) → T (notBelow (sideOf s))
