@@ -71,10 +71,9 @@ fn cut(
     let fast = t.fast;
     if steeper(last, fast) {
         up[end] = k;
-        shortened(x, t, end + 1)
-    } else {
-        shortened(x, t, end)
+        return shortened(x, t, end + 1);
     }
+    shortened(x, t, end)
 }
 
 // The same polygon with one line for both.
@@ -111,13 +110,11 @@ fn cut_above(
     let u = value_at(times, tops, flip, k);
     if 0 < height(fast, t, u) {
         if 0 <= height(slow, t, u) {
-            alone(x, slow)
-        } else {
-            cut(times, tops, bottoms, flip, up, down, x, k)
+            return alone(x, slow);
         }
-    } else {
-        x
+        return cut(times, tops, bottoms, flip, up, down, x, k);
     }
+    x
 }
 
 // Every value negated.
@@ -231,10 +228,9 @@ pub fn join(
 {
     if has_width(times, highs, lows, k) {
         let y = cut_above(times, highs, lows, false, up, down, x, k);
-        cut_below(times, highs, lows, up, down, y, k)
-    } else {
-        cut_to_point(times, highs, lows, up, down, x, k)
+        return cut_below(times, highs, lows, up, down, y, k);
     }
+    cut_to_point(times, highs, lows, up, down, x, k)
 }
 
 // The polygon of ranges i and k.
@@ -258,15 +254,13 @@ pub fn begin(
             up[1] = k;
             down[0] = i;
             down[1] = k;
-            first_entries(2, slow, fast)
-        } else {
-            up[0] = k;
-            down[0] = k;
-            first_entries(1, slow, fast)
+            return first_entries(2, slow, fast);
         }
-    } else {
-        up[0] = i;
-        down[0] = i;
-        first_entries(1, slow, fast)
+        up[0] = k;
+        down[0] = k;
+        return first_entries(1, slow, fast);
     }
+    up[0] = i;
+    down[0] = i;
+    first_entries(1, slow, fast)
 }

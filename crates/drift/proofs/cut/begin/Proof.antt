@@ -97,18 +97,18 @@ begin-spec =
     slice-write-down
     slice-write-down-2
     first-entries-requires
-    slice-write-up-3
-    slice-write-down-3
-    first-entries-requires-2
-    slice-write-up-4
-    slice-write-down-4
-    first-entries-requires-3
     same-length
     same-length-2
     returns
+    slice-write-up-3
+    slice-write-down-3
+    first-entries-requires-2
     same-length-3
     same-length-4
     returns-2
+    slice-write-up-4
+    slice-write-down-4
+    first-entries-requires-3
     same-length-5
     same-length-6
     returns-3)

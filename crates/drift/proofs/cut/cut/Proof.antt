@@ -55,8 +55,8 @@ cut-spec =
     slice-write-up
     add-shortened
     shortened-requires
-    shortened-requires-2
     same-length
     returns
+    shortened-requires-2
     same-length-2
     returns-2)

@@ -63,8 +63,8 @@ cut-above-spec =
     height-requires
     height-requires-2
     alone-requires
-    cut-requires
     returns
+    cut-requires
     same-length
     returns-2
     returns-3)

@@ -48,10 +48,10 @@ join-spec =
     has-width-requires
     cut-above-requires
     cut-below-requires
-    cut-to-point-requires
     same-length
     same-length-2
     returns
+    cut-to-point-requires
     same-length-3
     same-length-4
     returns-2)
