@@ -78,7 +78,10 @@ row-of-requires c κs = tt
 abbrev entry : tie.After-segment-from Inv-loop μ-loop → tie.Start Inv-loop μ-loop
 entry c = c .before .before .before .before .before .before .before .before .before .before .before
 
-stored : (c : tie.After-segment-from Inv-loop μ-loop) → FirstStored (c .before .before .before .before .loop .count) (all (entry c)) (old (entry c)) (columns (c .before .before .before .before .loop .first-times) (c .before .before .before .before .loop .last-times) (c .before .before .before .before .loop .counts) (c .before .before .before .before .loop .slow-ps) (c .before .before .before .before .loop .slow-qs) (c .before .before .before .before .loop .slow-ds) (c .before .before .before .before .loop .fast-ps) (c .before .before .before .before .loop .fast-qs) (c .before .before .before .before .loop .fast-ds) (c .before .before .before .before .loop .somes) (c .before .before .before .before .loop .alls))
+abbrev now : tie.After-segment-from Inv-loop μ-loop → Columns
+now c = columns (c .before .before .before .before .loop .first-times) (c .before .before .before .before .loop .last-times) (c .before .before .before .before .loop .counts) (c .before .before .before .before .loop .slow-ps) (c .before .before .before .before .loop .slow-qs) (c .before .before .before .before .loop .slow-ds) (c .before .before .before .before .loop .fast-ps) (c .before .before .before .before .loop .fast-qs) (c .before .before .before .before .loop .fast-ds) (c .before .before .before .before .loop .somes) (c .before .before .before .before .loop .alls)
+
+stored : (c : tie.After-segment-from Inv-loop μ-loop) → FirstStored (c .before .before .before .before .loop .count) (all (entry c)) (old (entry c)) (now c)
 stored c = c .before .before .before .before .loop .inv .0 .stored
 
 room : (c : tie.After-segment-from Inv-loop μ-loop) → Room (length (all (entry c))) (old (entry c))
@@ -92,11 +95,10 @@ cast-ranges : tie.Need-cast-ranges Inv-loop μ-loop
 unfolding segmentOf
 cast-ranges c = let t = c .before .before .before in record { fits = omega (arith, t .segment-from .ensures .within, entry t .good .1 .0 .0) }
 
-roomy : (c : tie.After-segment-from Inv-loop μ-loop) → Room (suc (c .before .before .before .before .loop .count)) (columns (c .before .before .before .before .loop .first-times) (c .before .before .before .before .loop .last-times) (c .before .before .before .before .loop .counts) (c .before .before .before .before .loop .slow-ps) (c .before .before .before .before .loop .slow-qs) (c .before .before .before .before .loop .slow-ds) (c .before .before .before .before .loop .fast-ps) (c .before .before .before .before .loop .fast-qs) (c .before .before .before .before .loop .fast-ds) (c .before .before .before .before .loop .somes) (c .before .before .before .before .loop .alls))
+roomy : (c : tie.After-segment-from Inv-loop μ-loop) → Room (suc (c .before .before .before .before .loop .count)) (now c)
 roomy c = first-room (stored c) (room c) (next c)
 
 -- a place of an entry, in bytes
-
 fits-4 : (c : tie.After-segment-from Inv-loop μ-loop) → Fits w64 (c .before .before .before .before .loop .count * 4)
 fits-4 c = scaled-fits _ _ 4 (omega (arith, roomy c .first-times, first-lengths (stored c) (room c) .first-times)) (entry c .good .1 .1 .1 .1 .0 .1)
 
@@ -121,6 +123,10 @@ mul-counts c = fits-4 (c .before .before .before .before)
 slice-write-counts : tie.Need-slice-write-counts Inv-loop μ-loop
 slice-write-counts c = roomy (c .before .before .before .before) .counts
 
+-- where all is stored
+abbrev turn : tie.After-fast-ds Inv-loop μ-loop → tie.After-segment-from Inv-loop μ-loop
+turn c = c .before .before .before .before .before .before .before .before .before .before .before .before .before .before .before .before .before .before .before .before
+
 store-line-requires : tie.Need-store-line-requires Inv-loop μ-loop
 store-line-requires c κs = let r = roomy (c .before .before .before .before .before .before .before .before) in record { ps-long = r .slow-ps; qs-long = r .slow-qs; ds-long = r .slow-ds }
 
@@ -128,32 +134,32 @@ store-line-requires-2 : tie.Need-store-line-requires-2 Inv-loop μ-loop
 store-line-requires-2 c κs = let r = roomy (c .before .before .before .before .before .before .before .before .before .before .before .before .before .before .before .before) in record { ps-long = r .fast-ps; qs-long = r .fast-qs; ds-long = r .fast-ds }
 
 mul-somes : tie.Need-mul-somes Inv-loop μ-loop
-mul-somes c = fits-8 (c .before .before .before .before .before .before .before .before .before .before .before .before .before .before .before .before .before .before .before .before)
+mul-somes c = fits-8 (turn c)
 
 slice-write-somes : tie.Need-slice-write-somes Inv-loop μ-loop
-slice-write-somes c = roomy (c .before .before .before .before .before .before .before .before .before .before .before .before .before .before .before .before .before .before .before .before) .somes
+slice-write-somes c = roomy (turn c) .somes
 
 mul-alls : tie.Need-mul-alls Inv-loop μ-loop
-mul-alls c = fits-8 (c .before .before .before .before .before .before .before .before .before .before .before .before .before .before .before .before .before .before .before .before)
+mul-alls c = fits-8 (turn c)
 
 slice-write-alls : tie.Need-slice-write-alls Inv-loop μ-loop
-slice-write-alls c = roomy (c .before .before .before .before .before .before .before .before .before .before .before .before .before .before .before .before .before .before .before .before) .alls
+slice-write-alls c = roomy (turn c) .alls
 
 add-start : tie.Need-add-start Inv-loop μ-loop
 unfolding segmentOf
-add-start c = let t = c .before .before .before .before .before .before .before .before .before .before .before .before .before .before .before .before .before .before .before .before in omega (arith, t .segment-from .ensures .within, entry t .good .1 .0 .0)
+add-start c = let t = turn c in omega (arith, t .segment-from .ensures .within, entry t .good .1 .0 .0)
 
 add-count : tie.Need-add-count Inv-loop μ-loop
-add-count c = let t = c .before .before .before .before .before .before .before .before .before .before .before .before .before .before .before .before .before .before .before .before in omega (arith, roomy t .first-times, first-lengths (stored t) (room t) .first-times, entry t .good .1 .1 .1 .1 .0 .0)
+add-count c = let t = turn c in omega (arith, roomy t .first-times, first-lengths (stored t) (room t) .first-times, entry t .good .1 .1 .1 .1 .0 .0)
 
 loop-less : tie.Need-loop-less Inv-loop μ-loop
 unfolding segmentOf
-loop-less c = let t = c .before .before .before .before .before .before .before .before .before .before .before .before .before .before .before .before .before .before .before .before in omega (arith, t .segment-from .ensures .some, t .segment-from .ensures .within)
+loop-less c = let t = turn c in omega (arith, t .segment-from .ensures .some, t .segment-from .ensures .within)
 
 loop-again : tie.Need-loop-again Inv-loop μ-loop
 unfolding segmentOf
 loop-again c =
-    let t = c .before .before .before .before .before .before .before .before .before .before .before .before .before .before .before .before .before .before .before .before in
+    let t = turn c in
     let lengths = t .before .before .before .before .loop .inv in
     let row = c .before .before .before .before .before .before .before .before .before .before .before .before .before .before .before .before .row-of .ensures in
     let slow = c .before .before .before .before .before .before .before .before .before .before .before .store-line .ensures in
