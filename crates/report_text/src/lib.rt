@@ -9,7 +9,7 @@ use trace::read;
 use trace_text::put_trace;
 
 // The least length of the slice for a report: 256 bytes for the trace's line and for each of 2,048 segments.
-const REPORT_ROOM: usize = 524544;
+pub const REPORT_ROOM: usize = 524544;
 
 // The number of the report's bytes, or the number of a refusal. A file that is turned down has a report too.
 pub enum ReportAnswer {
