@@ -1,4 +1,8 @@
 // The fit of a run as two chains and two lines. All of it stands in specs/; a crate has at least one function, and this is it.
-pub fn same(x: u8) -> u8 {
+ghost use mathlib.Core.Path.{_≡_};
+
+pub fn same(x: u8) -> u8
+    ensures { λ r. ⌜ r ≡ x ⌝ }
+{
     x
 }

@@ -8,7 +8,7 @@
 -- Assumes nothing.
 use Prim.Native.Nat.{ℕ, zero, suc, _+_, _≤_, _<_}
 use mathlib.Core.Path.{_≡_, refl, sym, ap, ap₂, _∙_}
-use mathlib.Core.List.{List, [], _∷_, _++_, append-assoc}
+use mathlib.Core.List.{List, [], _∷_, _++_, append-nil, append-assoc}
 use native.Mathlib.Omega.{arith}
 use lib.IntN.{ℤ, pos}
 use lib.ListN.{length, getD, take, replicate, length-replicate, length-map}
@@ -35,11 +35,7 @@ use Rattle.report_text.specs.BackLaws.{segments-back}
 
 lines-snoc : (place : ℕ) (ss : List Segment) (s : Segment) → segmentLines place (ss ++ (s ∷ [])) ≡ segmentLines place ss ++ segmentLine (place + length ss) s
 unfolding segmentLines
-lines-snoc place [] s = ap (λ k. segmentLine k s ++ []) (sym (omega arith)) ∙ nil-right (segmentLine (place + 0) s)
-  where
-    nil-right : (l : List ℕ) → l ++ [] ≡ l
-    nil-right [] = refl
-    nil-right (x ∷ l) = ap (λ l. x ∷ l) (nil-right l)
+lines-snoc place [] s = ap (λ k. segmentLine k s ++ []) (sym (omega arith)) ∙ append-nil (segmentLine (place + 0) s)
 lines-snoc place (t ∷ ss) s =
     ap (λ l. segmentLine place t ++ l) (lines-snoc (suc place) ss s)
     ∙ sym (append-assoc (segmentLine place t) (segmentLines (suc place) ss) (segmentLine (suc place + length ss) s))
