@@ -32,9 +32,9 @@ use Rattle.trial_laws.specs.Accepted.{AcceptedLists}
 use Rattle.drift_laws.specs.LineRows.{RowRoom}
 use Rattle.drift_laws.specs.RunsByPlace.{run, run-one, run-two}
 use Rattle.drift.specs.declared.CornersAnswer.the-variants.{Corners, Open, Refused}
-use Rattle.drift.specs.declared.last_run.Found.{Found}
-use Rattle.drift.specs.LastRuns.{LastRun}
-use Rattle.drift.specs.RunCorners.{RunCorners}
+use Rattle.fit.specs.declared.last_run.Found.{Found}
+use Rattle.fit.specs.LastRuns.{LastRun}
+use Rattle.corner_list.specs.RunCorners.{RunCorners}
 use Rattle.drift.specs.CornersPromise.{countOf, cornersIn, cornersMeaning, threeLengths, CornersPromise}
 
 -- ---- the rows

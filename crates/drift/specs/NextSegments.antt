@@ -31,10 +31,10 @@ use Rattle.lines.specs.OutlookTimes.{reachTime, reachTime-same}
 use Rattle.lines.specs.Polygon.{decides}
 use Rattle.lines.specs.RunOutlook.{outlook-by-lines}
 use Rattle.drift_laws.specs.RunsByPlace.{run, run-one, run-two, run-more, run-rest, run-ordered}
-use Rattle.drift.specs.declared.run.Reach.{Reach}
-use Rattle.drift.specs.Meanings.{lineOf}
-use Rattle.drift.specs.Reach.{lookAhead}
-use Rattle.drift.specs.RunsFrom.{RunFrom}
+use Rattle.fit.specs.declared.run.Reach.{Reach}
+use Rattle.values.specs.Meanings.{lineOf}
+use Rattle.values.specs.Reach.{lookAhead}
+use Rattle.fit.specs.RunsFrom.{RunFrom}
 use Rattle.drift.specs.Filling.{NextSegment}
 
 -- a run of at least one range is not empty

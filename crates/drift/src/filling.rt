@@ -2,15 +2,15 @@
 ghost use lib.ListN.{length};
 ghost use Rattle.definitions.specs.Ranges.{rangesOf};
 ghost use Rattle.definitions.specs.Results.{segmentsOf};
-ghost use Rattle.drift.specs.Meanings.{segmentOf};
+ghost use Rattle.values.specs.Meanings.{segmentOf};
 ghost use Rattle.drift.specs.Columns.{columns, AllStored};
 ghost use Rattle.drift.specs.Filling.{StartReady, FillReady, NextSegment};
-use crate::outlook::outlook_of;
 use crate::rows::row_of;
-use crate::rows::store_line;
-use crate::run::run_from;
-use crate::values::Outlook;
-use crate::values::Segment;
+use fit::run::run_from;
+use values::Outlook;
+use values::Segment;
+use values::reaching::outlook_of;
+use values::storing::store_line;
 
 // The segment that begins at a range: the run from there on, and its outlook.
 fn segment_from(

@@ -1,17 +1,7 @@
 // The segments of a trace, their outlooks, and the corners of the fit. Only the calls are open to outsiders.
-mod chain; // chain.rt: the polygon of a fit as two chains and two lines, and what a new end leaves of the chains
-mod corner_list; // corner_list.rt: the corners of the fit into three lent slices
 mod corner_trial; // corner_trial.rt: what Corners tries besides its lists
-mod cut; // cut.rt: the polygon with one more range
 mod filling; // filling.rt: every segment into the lent slices
-mod last_run; // last_run.rt: the segment then running after some ranges
-mod line; // line.rt: a line in lowest terms, and its side of a level
-mod numbers; // numbers.rt: the greatest common divisor, and the quotient rounded up
-mod outlook; // outlook.rt: when a line reaches a level, and the outlook of two lines
-mod points; // points.rt: the ends of ranges as points, and the lines through them
 mod rows; // rows.rt: segments as rows of numbers, and rows into the lent slices
-mod run; // run.rt: the run that begins at a range
-mod values; // values.rt: lines, times, outlooks and segments, by value
 
 ghost use Rattle.drift.specs.Columns.{columns};
 ghost use Rattle.drift.specs.SegmentPromise.{SegmentPromise};
@@ -111,7 +101,7 @@ pub fn corners(
     let mut up = [0u32; 4096];
     let mut down = [0u32; 4096];
     let end = k as u32;
-    let found = last_run::last_run(times, highs, lows, &mut up, &mut down, end);
+    let found = fit::last_run::last_run(times, highs, lows, &mut up, &mut down, end);
     let start = found.start;
     if end - start < 2 {
         return CornersAnswer::Open;

@@ -1,19 +1,17 @@
-// From a segment to the eleven lent slices: the eleven numbers of the segment, and three of them into their slices.
+// From a segment to the eleven lent slices: the eleven numbers of the segment, and whether there is room for them.
 ghost use mathlib.Core.Path.{_≡_};
 ghost use mathlib.Core.Bool.{_||_};
 ghost use mathlib.Core.List.{[], _∷_};
-ghost use Prim.Native.Nat.{suc};
 ghost use lib.Dec.{ltb};
 ghost use Rattle.definitions.specs.Spans.{segmentRoom};
 ghost use Rattle.definitions.specs.Trial.{tooShort};
 ghost use Rattle.definitions.specs.Results.{timeNumber, numbersOf};
-ghost use Rattle.drift_laws.specs.LineRows.{RowRoom, RowsSet};
-ghost use Rattle.drift.specs.Meanings.{lineOf, timeOf, segmentOf};
+ghost use Rattle.values.specs.Meanings.{timeOf, segmentOf};
 ghost use Rattle.drift.specs.Rows.{rowOf};
-use crate::values::Line;
-use crate::values::Outlook;
-use crate::values::Segment;
-use crate::values::Time;
+use values::Line;
+use values::Outlook;
+use values::Segment;
+use values::Time;
 
 // Stands for a time that is none.
 const NEVER: u64 = 4294967296;
@@ -74,19 +72,6 @@ pub fn row_of(s: Segment) -> Row
             all: time_number(all),
         },
     }
-}
-
-// Stores a line at a place of three slices.
-pub fn store_line(ps: &mut [i64], qs: &mut [i64], ds: &mut [i64], at: usize, l: Line)
-    requires { ⌜ RowRoom (suc at) (now ps) (now qs) (now ds) ⌝ }
-    ensures { λ _. ⌜ RowsSet at (lineOf l ∷ []) (now (ps .entry)) (now (qs .entry)) (now (ds .entry)) (now (ps .exit)) (now (qs .exit)) (now (ds .exit)) ⌝ }
-{
-    let p = l.p;
-    let q = l.q;
-    let d = l.d;
-    ps[at] = p;
-    qs[at] = q;
-    ds[at] = d;
 }
 
 // Whether a slice of n entries is too short to be filled, or one of the others is.

@@ -18,8 +18,8 @@ use Rattle.trial_laws.specs.Inside.{count-inside}
 use Rattle.trial_laws.specs.Accepted.{AcceptedLists, trial-zero}
 use Rattle.drift_laws.specs.EndReads.{accepted-highs, accepted-lows}
 use Rattle.drift_laws.specs.LineRows.{RowRoom}
-use Rattle.drift.specs.Polygons.{shape-more}
-use Rattle.drift.specs.RunCorners.{proper-corners, points-few, run-corners}
+use Rattle.fit.specs.Polygons.{shape-more}
+use Rattle.corner_list.specs.RunCorners.{proper-corners, points-few, run-corners}
 use Rattle.drift.specs.CornersPromise.{threeLengths}
 use Rattle.drift.specs.CornersPromiseLaws.{rows-refused, count-refused, rows-passed, room-tested, promise-refused, promise-open, promise-corners}
 use Rattle.drift.proofs.corners.Statement.{statement}

@@ -15,7 +15,7 @@ use Rattle.definitions.specs.Ranges.{Lists, rangesOf}
 use Rattle.definitions.specs.Splits.{cut}
 use Rattle.definitions.specs.Segments.{segments}
 use Rattle.definitions.specs.Results.{Segment, segmentsOf}
-use Rattle.drift.specs.Meanings.{segmentOf}
+use Rattle.values.specs.Meanings.{segmentOf}
 use Rattle.drift.specs.Columns.{Columns, columns, Room, SameLengths, FirstStored, AllStored}
 use Rattle.drift.specs.ColumnLaws.{first-none, first-lengths, first-room, first-next, rest-left, first-all}
 use Rattle.drift.specs.Filling.{FillReady, Turn, ranges-long}

@@ -14,8 +14,8 @@ use Rattle.definitions.specs.Ranges.{Lists}
 use Rattle.definitions.specs.Corners.{reduced}
 use Rattle.trial_laws.specs.Inside.{value-inside}
 use Rattle.trial_laws.specs.Accepted.{AcceptedLists}
-use Rattle.drift.specs.Meanings.{lineOf, outlookOf, segmentOf}
-use Rattle.drift.specs.Reach.{lookAhead}
+use Rattle.values.specs.Meanings.{lineOf, outlookOf, segmentOf}
+use Rattle.values.specs.Reach.{lookAhead}
 use Rattle.drift.specs.Filling.{NextSegment}
 use Rattle.drift.specs.NextSegments.{foundAt, next-open, next-lines}
 use Rattle.drift.proofs.filling.segment_from.Statement.{statement}

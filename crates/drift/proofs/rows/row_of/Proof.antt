@@ -2,7 +2,7 @@
 use mathlib.Core.Path.{sym, ap}
 use borrow.Author.Needs.{needs}
 use Rattle.definitions.specs.Results.{numbers, numbersOf}
-use Rattle.drift.specs.Meanings.{outlookOf, segmentOf}
+use Rattle.values.specs.Meanings.{outlookOf, segmentOf}
 use Rattle.drift.proofs.rows.row_of.Statement.{statement}
 use Rattle.drift.proofs.rows.row_of.Tie as tie
 

@@ -2,7 +2,7 @@
 use mathlib.Core.Path.{sym, ap}
 use borrow.Author.Needs.{needs}
 use Rattle.definitions.specs.Results.{timeNumber}
-use Rattle.drift.specs.Meanings.{timeOf}
+use Rattle.values.specs.Meanings.{timeOf}
 use Rattle.drift.proofs.rows.time_number.Statement.{statement}
 use Rattle.drift.proofs.rows.time_number.Tie as tie
 

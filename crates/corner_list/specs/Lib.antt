@@ -1,0 +1,2 @@
+pub mod CornerRows
+pub mod RunCorners

@@ -1,0 +1,22 @@
+-- `fit::points::reaches_end` meets its contract. Assumes nothing.
+use lib.IntN.{pos}
+use lib.Signed.{leZ}
+use borrow.Author.Needs.{needs}
+use Rattle.fit.specs.LinesOfEnds.{height-test}
+use Rattle.fit.proofs.points.reaches_end.Statement.{statement}
+use Rattle.fit.proofs.points.reaches_end.Tie as tie
+
+time-at-requires : tie.Need-time-at-requires
+time-at-requires c κs = search needs
+
+value-at-requires : tie.Need-value-at-requires
+value-at-requires c κs = search needs
+
+height-requires : tie.Need-height-requires
+height-requires c κs = search needs
+
+returns : tie.Need-returns
+returns c = height-test (leZ (pos 0)) (c .before .before .before .before .args .l) (c .height .result) (c .before .before .time-at .ensures) (c .before .value-at .ensures) (c .height .ensures) (c .height .ok)
+
+pub reaches-end-spec : {M : Type 1} → statement M
+reaches-end-spec = tie.close (tie.spec time-at-requires value-at-requires height-requires returns)

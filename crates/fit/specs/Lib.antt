@@ -1,0 +1,6 @@
+pub mod LinesOfEnds
+pub mod Polygons
+pub mod Cuts
+pub mod Joins
+pub mod RunsFrom
+pub mod LastRuns

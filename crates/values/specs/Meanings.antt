@@ -1,0 +1,36 @@
+-- What the code's values stand for among document 01's terms: the definition of each case of an enum.
+--
+--     lineOf, sideOf, timeOf, outlookOf, segmentOf     of a line, a side, a time, an outlook and a segment; a name of document 01 that the code has too ends in 01 here
+--
+-- Assumes nothing.
+use Rattle.definitions.specs.Times.{none, at, Time as Time01}
+use Rattle.definitions.specs.Lines.{below, on, above, Line as Line01, Side as Side01}
+use Rattle.definitions.specs.Outlook.{open-strip, lines, Outlook as Outlook01}
+use Rattle.definitions.specs.Results.{Segment as Segment01}
+use Rattle.values.specs.declared.Line.{Line}
+use Rattle.values.specs.declared.Side.{Side}
+use Rattle.values.specs.declared.Side.the-variants.{Below, On, Above}
+use Rattle.values.specs.declared.Time.{Time}
+use Rattle.values.specs.declared.Time.the-variants.{Never, At}
+use Rattle.values.specs.declared.Outlook.{Outlook}
+use Rattle.values.specs.declared.Outlook.the-variants.{Open, Lines}
+use Rattle.values.specs.declared.Segment.{Segment}
+
+abbrev pub lineOf : Line → Line01
+lineOf l = record { p = l .p; q = l .q; d = l .d }
+
+unfoldable pub sideOf : Side → Side01
+sideOf Below = below
+sideOf On = on
+sideOf Above = above
+
+unfoldable pub timeOf : Time → Time01
+timeOf Never = none
+timeOf (At t) = at t
+
+unfoldable pub outlookOf : Outlook → Outlook01
+outlookOf Open = open-strip
+outlookOf (Lines slow fast some all) = lines (lineOf slow) (lineOf fast) (timeOf some) (timeOf all)
+
+unfoldable pub segmentOf : Segment → Segment01
+segmentOf s = record { firstTime = s .«first_time»; lastTime = s .«last_time»; count = s .count; outlook = outlookOf (s .outlook) }
