@@ -43,7 +43,7 @@ pub data Result : Type 0 where
   printed : Answer (List ℕ) → Result
 
 pub run : Call → Result
-run (segment level ls) = segmented (segmentCall (replicate 11 segmentRoom) level ls)
+run (segment level ls) = segmented (segmentCall (replicate 11 segmentRoom) (record { level = level }) ls)
 run (cornersAfter k ls) = cornered (cornersCall (replicate 3 cornerRoom) k ls)
 run (read bs) = opened (readCall (replicate 3 readRoom) bs)
 run (print bs) = printed (reportCall (reportRoom ∷ []) bs)

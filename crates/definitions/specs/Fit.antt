@@ -20,6 +20,7 @@ use lib.ListN.{length}
 use lib.Signed.{_≤ℤ_, _<ℤ_}
 use Rattle.integers.specs.Lists.{All}
 use Rattle.definitions.specs.Ranges.{Range}
+use Rattle.definitions.specs.Services.{Service}
 use Rattle.definitions.specs.Lines.{Line, reading}
 use Rattle.definitions.specs.Corners.{side}
 
@@ -118,10 +119,10 @@ pub data InCornerOrder : List Line → Type 0 where
 abbrev pub Reaches : ℤ → ℕ → Line → Type 0
 Reaches level t l = (l .d *ℤ level) ≤ℤ reading l t
 
-pub record SomeReaches (rs : List Range) (level : ℤ) (t : ℕ) : Type 0 where
+pub record SomeReaches (rs : List Range) (v : Service) (t : ℕ) : Type 0 where
   pub line : Line
   pub fit : InFit rs line
-  pub reaches : Reaches level t line
+  pub reaches : Reaches (v .level) t line
 
-abbrev pub AllReach : List Range → ℤ → ℕ → Type 0
-AllReach rs level t = (l : Line) → InFit rs l → Reaches level t l
+abbrev pub AllReach : List Range → Service → ℕ → Type 0
+AllReach rs v t = (l : Line) → InFit rs l → Reaches (v .level) t l

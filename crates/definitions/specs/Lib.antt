@@ -1,6 +1,7 @@
 pub mod Spans
 pub mod Times
 pub mod Ranges
+pub mod Services
 pub mod Lines
 pub mod Corners
 pub mod Splits

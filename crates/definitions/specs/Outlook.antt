@@ -7,37 +7,37 @@
 -- Assumes nothing.
 use Prim.Native.Nat.{ℕ}
 use mathlib.Core.List.{List, [], _∷_, getLastD}
-use lib.IntN.{ℤ}
 use Rattle.integers.specs.Lists.{all, any}
 use Rattle.integers.specs.Least.{firstByEnds}
 use Rattle.definitions.specs.Spans.{mostTime}
 use Rattle.definitions.specs.Times.{Time}
+use Rattle.definitions.specs.Services.{Service}
 use Rattle.definitions.specs.Ranges.{Range}
 use Rattle.definitions.specs.Lines.{Line, atOrAbove}
 use Rattle.definitions.specs.Corners.{fitting}
 
 -- Each test passes at an end of its span if it passes at all, and `firstByEnds` then computes also where the answer is none.
-unfoldable pub someTime : ℤ → ℕ → List Line → Time
-someTime level from ls = firstByEnds (λ t. any (atOrAbove level t) ls) from mostTime
+unfoldable pub someTime : Service → ℕ → List Line → Time
+someTime v from ls = firstByEnds (λ t. any (atOrAbove (v .level) t) ls) from mostTime
 
-unfoldable pub allTime : ℤ → ℕ → List Line → Time
-allTime level from ls = firstByEnds (λ t. all (atOrAbove level t) ls) from mostTime
+unfoldable pub allTime : Service → ℕ → List Line → Time
+allTime v from ls = firstByEnds (λ t. all (atOrAbove (v .level) t) ls) from mostTime
 
 pub data Outlook : Type 0 where
   open-strip : Outlook
   lines : Line → Line → Time → Time → Outlook
 
 -- of lines by rising slope, of which the first is slow and the last fast
-unfoldable pub outlookOf : ℤ → ℕ → List Line → Outlook
-outlookOf level from [] = open-strip
-outlookOf level from (l ∷ ls) = lines l (getLastD ls l) (someTime level from (l ∷ ls)) (allTime level from (l ∷ ls))
+unfoldable pub outlookOf : Service → ℕ → List Line → Outlook
+outlookOf v from [] = open-strip
+outlookOf v from (l ∷ ls) = lines l (getLastD ls l) (someTime v from (l ∷ ls)) (allTime v from (l ∷ ls))
 
 -- the time of the last of r ∷ rs
 unfoldable pub endTime : Range → List Range → ℕ
 endTime r [] = r .time
 endTime r (s ∷ rs) = endTime s rs
 
-unfoldable pub outlook : ℤ → List Range → Outlook
-outlook level [] = open-strip
-outlook level (r ∷ []) = open-strip
-outlook level (r ∷ s ∷ rs) = outlookOf level (endTime s rs) (fitting (r ∷ s ∷ rs))
+unfoldable pub outlook : Service → List Range → Outlook
+outlook v [] = open-strip
+outlook v (r ∷ []) = open-strip
+outlook v (r ∷ s ∷ rs) = outlookOf v (endTime s rs) (fitting (r ∷ s ∷ rs))

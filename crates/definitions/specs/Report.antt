@@ -86,7 +86,7 @@ traceText t ss = traceLine (t .address) (t .level) (length (t .ranges)) (length 
 
 unfoldable pub reportText : Answer Trace → List ℕ
 reportText (refused n) = refusedLine n
-reportText (accepted t) = traceText t (segmentsOf (t .level) (t .ranges))
+reportText (accepted t) = traceText t (segmentsOf (record { level = t .level }) (t .ranges))
 
 unfoldable pub report : List ℕ → List ℕ
 report file = reportText (readFile file)

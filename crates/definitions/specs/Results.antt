@@ -10,6 +10,7 @@ use lib.ListN.{length}
 use lib.IntN.{ℤ, pos}
 use Rattle.definitions.specs.Ranges.{Range}
 use Rattle.definitions.specs.Times.{Time, none, at}
+use Rattle.definitions.specs.Services.{Service}
 use Rattle.definitions.specs.Segments.{segments}
 use Rattle.definitions.specs.Outlook.{Outlook, open-strip, lines, outlook, endTime}
 
@@ -20,12 +21,12 @@ pub record Segment : Type 0 where
   pub outlook : Outlook
 
 -- a run has at least one range
-unfoldable pub segmentOf : ℤ → List Range → Segment
-segmentOf level [] = record { firstTime = 0; lastTime = 0; count = 0; outlook = open-strip }
-segmentOf level (r ∷ rs) = record { firstTime = r .time; lastTime = endTime r rs; count = length (r ∷ rs); outlook = outlook level (r ∷ rs) }
+unfoldable pub segmentOf : Service → List Range → Segment
+segmentOf v [] = record { firstTime = 0; lastTime = 0; count = 0; outlook = open-strip }
+segmentOf v (r ∷ rs) = record { firstTime = r .time; lastTime = endTime r rs; count = length (r ∷ rs); outlook = outlook v (r ∷ rs) }
 
-unfoldable pub segmentsOf : ℤ → List Range → List Segment
-segmentsOf level rs = map (segmentOf level) (segments rs)
+unfoldable pub segmentsOf : Service → List Range → List Segment
+segmentsOf v rs = map (segmentOf v) (segments rs)
 
 -- the number that stands for a time
 unfoldable pub timeNumber : Time → ℕ

@@ -15,10 +15,10 @@ use mathlib.Core.Path.{_≡_, refl, sym, ap, ap₂, _∙_, subst}
 use mathlib.Core.List.{List, [], _∷_, _++_}
 use Prim.Native.Nat.{ℕ, zero, suc, _<_, _≤_}
 use native.Mathlib.Omega.{arith}
-use lib.IntN.{ℤ}
 use lib.ListN.{length, getD, take, length-map}
 use lib.Seq.{take-suc, take-all}
 use Rattle.integers.specs.Lists.{filter}
+use Rattle.definitions.specs.Services.{Service}
 use Rattle.definitions.specs.Ranges.{Range, Lists, rangesOf}
 use Rattle.definitions.specs.Fit.{HasLine}
 use Rattle.definitions.specs.Splits.{Split}
@@ -43,13 +43,13 @@ unfoldable pub givenRuns : Lists → Columns → ℕ → List (List Range)
 givenRuns ls new zero = []
 givenRuns ls new (suc n) = givenRuns ls new n ++ (givenRun ls new n ∷ [])
 
-module _ {level : ℤ} {ls : Lists} {old new : Columns} {n : ℕ} (promise : SegmentPromise level ls old new (Accepted n)) where
+module _ {v : Service} {ls : Lists} {old new : Columns} {n : ℕ} (promise : SegmentPromise v ls old new (Accepted n)) where
   abbrev rs : List Range
   rs = rangesOf ls
 
   pub given-count : n ≡ length (segments rs)
   unfolding segmentsOf
-  given-count = count-is promise ∙ length-map (segments rs) (segmentOf level)
+  given-count = count-is promise ∙ length-map (segments rs) (segmentOf v)
 
   -- ---- the times
 
@@ -58,7 +58,7 @@ module _ {level : ℤ} {ls : Lists} {old new : Columns} {n : ℕ} (promise : Seg
     below = omega (arith, given-count)
 
     abbrev segmentAt : Segment
-    segmentAt = getD (segmentsOf level rs) j (segmentOf level [])
+    segmentAt = getD (segmentsOf v rs) j (segmentOf v [])
 
     pub first-given : getD (new .firstTimes) j 0 ≡ firstTimeOf (getD (segments rs) j [])
     unfolding numbersOf
@@ -66,8 +66,8 @@ module _ {level : ℤ} {ls : Lists} {old new : Columns} {n : ℕ} (promise : Seg
         let s = segmentAt in
         column-at promise (λ m. m .firstTime) (new .firstTimes) (old .firstTimes) (promise .columns-are .first-times) j h 0
         ∙ first-number (s .firstTime) (s .lastTime) (s .count) (s .outlook)
-        ∙ ap (λ x. x .firstTime) (segmentsOf-at level rs j)
-        ∙ segment-first-time level (getD (segments rs) j [])
+        ∙ ap (λ x. x .firstTime) (segmentsOf-at v rs j)
+        ∙ segment-first-time v (getD (segments rs) j [])
 
     pub last-given : getD (new .lastTimes) j 0 ≡ lastTimeOf (getD (segments rs) j [])
     unfolding numbersOf
@@ -75,8 +75,8 @@ module _ {level : ℤ} {ls : Lists} {old new : Columns} {n : ℕ} (promise : Seg
         let s = segmentAt in
         column-at promise (λ m. m .lastTime) (new .lastTimes) (old .lastTimes) (promise .columns-are .last-times) j h 0
         ∙ last-number (s .firstTime) (s .lastTime) (s .count) (s .outlook)
-        ∙ ap (λ x. x .lastTime) (segmentsOf-at level rs j)
-        ∙ segment-last-time level (getD (segments rs) j [])
+        ∙ ap (λ x. x .lastTime) (segmentsOf-at v rs j)
+        ∙ segment-last-time v (getD (segments rs) j [])
 
     -- the ranges from the first time given to the last are the segment
     pub run-given : givenRun ls new j ≡ getD (segments rs) j []

@@ -16,14 +16,15 @@ use mathlib.Core.List.{List, [], _∷_}
 use native.Mathlib.Omega.{arith}
 use lib.IntN.{ℤ}
 use lib.ListN.{length, drop}
+use Rattle.definitions.specs.Services.{Service}
 use Rattle.definitions.specs.Ranges.{Lists, zipRanges, rangesOf}
 use Rattle.definitions.specs.Results.{Segment, segmentsOf}
 use Rattle.definitions.specs.Trial.{outside}
 use Rattle.trial_laws.specs.Accepted.{AcceptedLists}
 use Rattle.drift.specs.Columns.{Columns, Room, FirstStored}
 
-pub record Tried (level : ℤ) (ls : Lists) : Type 0 where
-  pub level-inside : outside level ≡ false
+pub record Tried (v : Service) (ls : Lists) : Type 0 where
+  pub level-inside : outside (v .level) ≡ false
   pub lists-accepted : AcceptedLists ls
 
 -- the two chains of a run have room for all ranges
@@ -31,24 +32,24 @@ pub record ChainRoom (ls : Lists) (up down : ℕ) : Type 0 where
   pub up-room : length (ls .times) ≤ up
   pub down-room : length (ls .times) ≤ down
 
-pub record StartReady (level : ℤ) (ls : Lists) (up down : ℕ) (start : ℕ) : Type 0 where
-  pub tried : Tried level ls
+pub record StartReady (v : Service) (ls : Lists) (up down : ℕ) (start : ℕ) : Type 0 where
+  pub tried : Tried v ls
   pub chains : ChainRoom ls up down
   pub inside : start < length (ls .times)
 
-pub record FillReady (level : ℤ) (ls : Lists) (cs : Columns) : Type 0 where
-  pub tried : Tried level ls
-  pub room : Room (length (segmentsOf level (rangesOf ls))) cs
+pub record FillReady (v : Service) (ls : Lists) (cs : Columns) : Type 0 where
+  pub tried : Tried v ls
+  pub room : Room (length (segmentsOf v (rangesOf ls))) cs
 
-pub record NextSegment (level : ℤ) (ls : Lists) (start : ℕ) (s : Segment) : Type 0 where
-  pub next : segmentsOf level (drop start (rangesOf ls)) ≡ s ∷ segmentsOf level (drop (start + s .count) (rangesOf ls))
+pub record NextSegment (v : Service) (ls : Lists) (start : ℕ) (s : Segment) : Type 0 where
+  pub next : segmentsOf v (drop start (rangesOf ls)) ≡ s ∷ segmentsOf v (drop (start + s .count) (rangesOf ls))
   pub within : start + s .count ≤ length (ls .times)
   pub some : 0 < s .count
 
-pub record Turn (level : ℤ) (ls : Lists) (old new : Columns) (start count : ℕ) : Type 0 where
+pub record Turn (v : Service) (ls : Lists) (old new : Columns) (start count : ℕ) : Type 0 where
   pub within : start ≤ length (ls .times)
-  pub left : drop count (segmentsOf level (rangesOf ls)) ≡ segmentsOf level (drop start (rangesOf ls))
-  pub stored : FirstStored count (segmentsOf level (rangesOf ls)) old new
+  pub left : drop count (segmentsOf v (rangesOf ls)) ≡ segmentsOf v (drop start (rangesOf ls))
+  pub stored : FirstStored count (segmentsOf v (rangesOf ls)) old new
 
 pub ranges-long : (ts : List ℕ) (us vs : List ℤ) → length (zipRanges ts us vs) ≤ length ts
 unfolding zipRanges

@@ -10,8 +10,8 @@ use mathlib.Core.Path.{_≡_, refl, sym, ap, _∙_}
 use mathlib.Core.List.{List, [], _∷_, _++_, map}
 use Prim.Native.Nat.{ℕ, zero, suc, _<_, _≤_}
 use native.Mathlib.Omega.{arith}
-use lib.IntN.{ℤ}
 use lib.ListN.{length, getD, drop, length-map, length-append, List·getD-map, List·getD-append}
+use Rattle.definitions.specs.Services.{Service}
 use Rattle.definitions.specs.Ranges.{Range, Lists, rangesOf}
 use Rattle.definitions.specs.Fit.{Ordered}
 use Rattle.definitions.specs.Outlook.{Outlook, open-strip, lines}
@@ -52,38 +52,38 @@ getD-other (x ∷ l) (suc j) a b h = getD-other l j a b (omega arith)
 
 -- ---- the slices
 
-module _ {level : ℤ} {ls : Lists} {old new : Columns} {n : ℕ} (promise : SegmentPromise level ls old new (Accepted n)) where
+module _ {v : Service} {ls : Lists} {old new : Columns} {n : ℕ} (promise : SegmentPromise v ls old new (Accepted n)) where
   abbrev rs : List Range
   rs = rangesOf ls
 
   -- Segment accepted, so no row held
-  no-row : firstRow (segmentRows (lengths old) level ls) ≡ accepted tt
+  no-row : firstRow (segmentRows (lengths old) v ls) ≡ accepted tt
   unfolding segmentMeaning segmentCall
-  no-row = both-accepted (segmentCall (lengths old) level ls) (λ ss. accepted (length ss)) n (sym (promise .answer-is)) (λ ss e f. passed ss e)
+  no-row = both-accepted (segmentCall (lengths old) v ls) (λ ss. accepted (length ss)) n (sym (promise .answer-is)) (λ ss e f. passed ss e)
     where
-      passed : (ss : List Segment) → segmentCall (lengths old) level ls ≡ accepted ss → firstRow (segmentRows (lengths old) level ls) ≡ accepted tt
-      passed ss e = first-row-accepted (segmentRows (lengths old) level ls) .1 (call-accepted (segmentRows (lengths old) level ls) (segmentsOf level rs) ss .0 e .0)
+      passed : (ss : List Segment) → segmentCall (lengths old) v ls ≡ accepted ss → firstRow (segmentRows (lengths old) v ls) ≡ accepted tt
+      passed ss e = first-row-accepted (segmentRows (lengths old) v ls) .1 (call-accepted (segmentRows (lengths old) v ls) (segmentsOf v rs) ss .0 e .0)
 
-  pub called : segmentCall (lengths old) level ls ≡ accepted (segmentsOf level rs)
+  pub called : segmentCall (lengths old) v ls ≡ accepted (segmentsOf v rs)
   unfolding segmentCall _>>=_
-  called = ap (λ a. a >>= λ ok. accepted (segmentsOf level rs)) no-row
+  called = ap (λ a. a >>= λ ok. accepted (segmentsOf v rs)) no-row
 
   pub taken : AcceptedLists ls
-  taken = segment-accepted (lengths old) level ls .0 no-row .2
+  taken = segment-accepted (lengths old) v ls .0 no-row .2
 
   pub ordered : Ordered rs
   ordered = taken .ranges .ordered
 
-  pub count-is : n ≡ length (segmentsOf level rs)
+  pub count-is : n ≡ length (segmentsOf v rs)
   unfolding segmentMeaning _>>=_
   count-is = accepted-is (promise .answer-is ∙ ap (λ a. a >>= λ ss. accepted (length ss)) called)
 
-  module _ {A : Type 0} (number : Numbers → A) (column column₀ : List A) (e : column ≡ filled (segmentCall (lengths old) level ls) (λ ss. map (λ s. number (numbersOf s)) ss) column₀) where
+  module _ {A : Type 0} (number : Numbers → A) (column column₀ : List A) (e : column ≡ filled (segmentCall (lengths old) v ls) (λ ss. map (λ s. number (numbersOf s)) ss) column₀) where
     abbrev told : List A
-    told = map (λ s. number (numbersOf s)) (segmentsOf level rs)
+    told = map (λ s. number (numbersOf s)) (segmentsOf v rs)
 
     told-long : length told ≡ n
-    told-long = length-map (segmentsOf level rs) (λ s. number (numbersOf s)) ∙ sym count-is
+    told-long = length-map (segmentsOf v rs) (λ s. number (numbersOf s)) ∙ sym count-is
 
     column-is : column ≡ told ++ drop (length told) column₀
     unfolding filled
@@ -92,9 +92,9 @@ module _ {level : ℤ} {ls : Lists} {old new : Columns} {n : ℕ} (promise : Seg
     pub column-room : n ≤ length column
     column-room = omega (arith, told-long, ap length column-is, length-append told (drop (length told) column₀))
 
-    pub column-at : (j : ℕ) → j < n → (past : A) → getD column j past ≡ number (numbersOf (getD (segmentsOf level rs) j (segmentOf level [])))
+    pub column-at : (j : ℕ) → j < n → (past : A) → getD column j past ≡ number (numbersOf (getD (segmentsOf v rs) j (segmentOf v [])))
     column-at j h past =
         ap (λ l. getD l j past) column-is
         ∙ List·getD-append told (drop (length told) column₀) past j (omega (arith, told-long))
-        ∙ getD-other told j past (number (numbersOf (segmentOf level []))) (omega (arith, told-long))
-        ∙ List·getD-map (λ s. number (numbersOf s)) (segmentsOf level rs) j (segmentOf level [])
+        ∙ getD-other told j past (number (numbersOf (segmentOf v []))) (omega (arith, told-long))
+        ∙ List·getD-map (λ s. number (numbersOf s)) (segmentsOf v rs) j (segmentOf v [])

@@ -11,8 +11,8 @@ use mathlib.Core.List.{List, [], _∷_, _++_, append-nil}
 use Prim.Native.Nat.{ℕ, suc, _+_, _-_, _<_, _≤_}
 use native.Mathlib.Nat.{eq-or-lt-of-le}
 use native.Mathlib.Omega.{arith}
-use lib.IntN.{ℤ}
 use lib.ListN.{length, drop, length-take, length-drop, drop-of-length-le}
+use Rattle.definitions.specs.Services.{Service}
 use Rattle.definitions.specs.Spans.{mostTime}
 use Rattle.definitions.specs.Ranges.{Range, Lists, rangesOf}
 use Rattle.definitions.specs.Corners.{reduced}
@@ -68,13 +68,13 @@ module _ (ls : Lists) (a : AcceptedLists ls) (i e : ℕ) (begins : i < e) (withi
             ∙ ap (λ rest. run ls i e ∷ segments rest) (sym next)
 
     -- a segment with the numbers of the run is the next one
-    next-is : (level : ℤ) (s : Segment) → segmentOf level (run ls i e) ≡ s → s .count ≡ e - i → NextSegment level ls i s
+    next-is : (v : Service) (s : Segment) → segmentOf v (run ls i e) ≡ s → s .count ≡ e - i → NextSegment v ls i s
     unfolding segmentsOf
-    next-is level s is count =
+    next-is v s is count =
         record {
           next =
               let m : e ≡ i + s .count = omega (arith, count) in
-              ap (λ runs. mathlib.Core.List.map (segmentOf level) runs) segments-from ∙ ap₂ (λ first k. first ∷ segmentsOf level (drop k (rangesOf ls))) is m;
+              ap (λ runs. mathlib.Core.List.map (segmentOf v) runs) segments-from ∙ ap₂ (λ first k. first ∷ segmentsOf v (drop k (rangesOf ls))) is m;
           within = omega (arith, count);
           some = omega (arith, count);
         }
@@ -83,8 +83,8 @@ module _ (ls : Lists) (a : AcceptedLists ls) (i e : ℕ) (begins : i < e) (withi
 abbrev pub foundAt : Lists → ℕ → ℕ → Outlook → Segment
 foundAt ls i e o = record { firstTime = rangeAt ls i .time; lastTime = rangeAt ls (e - 1) .time; count = e - i; outlook = o }
 
-module _ {ls : Lists} (a : AcceptedLists ls) {i : ℕ} {up down : List ℕ} {r : Reach} (f : RunFrom ls i (length (ls .times)) up down r) (level : ℤ) where
-  pub next-open : r .end - i < 2 → NextSegment level ls i (foundAt ls i (r .end) open-strip)
+module _ {ls : Lists} (a : AcceptedLists ls) {i : ℕ} {up down : List ℕ} {r : Reach} (f : RunFrom ls i (length (ls .times)) up down r) (v : Service) where
+  pub next-open : r .end - i < 2 → NextSegment v ls i (foundAt ls i (r .end) open-strip)
   unfolding segmentOf outlook endTime
   next-open h =
       let b = f .begins in
@@ -92,8 +92,8 @@ module _ {ls : Lists} (a : AcceptedLists ls) {i : ℕ} {up down : List ℕ} {r :
       let e : r .end ≡ i + 1 = omega arith in
       let last : r .end - 1 ≡ i = omega arith in
       let one : r .end - i ≡ 1 = omega arith in
-      next-is ls a i (r .end) b w (f .line) (f .closed) level (foundAt ls i (r .end) open-strip)
-      (ap (λ k. segmentOf level (run ls i k)) e ∙ ap (segmentOf level) (run-one ls a i (omega arith)) ∙ λ j. record { firstTime = rangeAt ls i .time; lastTime = rangeAt ls (sym last j) .time; count = sym one j; outlook = open-strip })
+      next-is ls a i (r .end) b w (f .line) (f .closed) v (foundAt ls i (r .end) open-strip)
+      (ap (λ k. segmentOf v (run ls i k)) e ∙ ap (segmentOf v) (run-one ls a i (omega arith)) ∙ λ j. record { firstTime = rangeAt ls i .time; lastTime = rangeAt ls (sym last j) .time; count = sym one j; outlook = open-strip })
       refl
 
   module _ (h : i + 2 ≤ r .end) (late : rangeAt ls (r .end - 1) .time ≤ mostTime) where
@@ -115,7 +115,7 @@ module _ {ls : Lists} (a : AcceptedLists ls) {i : ℕ} {up down : List ℕ} {r :
         let m : k + 1 ≡ r .end = omega arith in
         ap lastTimeOf (sym run-is ∙ ap (run ls i) (sym m) ∙ run-more ls a i k (omega arith) (omega arith)) ∙ last-append (run ls i k) (rangeAt ls k) []
 
-    look-is : outlook level (rangeAt ls i ∷ rangeAt ls (i + 1) ∷ run ls (i + 2) (r .end)) ≡ lookAhead (reduced (lineOf (r .polygon .slow))) (reduced (lineOf (r .polygon .fast))) level (rangeAt ls (r .end - 1) .time)
+    look-is : outlook v (rangeAt ls i ∷ rangeAt ls (i + 1) ∷ run ls (i + 2) (r .end)) ≡ lookAhead (reduced (lineOf (r .polygon .slow))) (reduced (lineOf (r .polygon .fast))) v (rangeAt ls (r .end - 1) .time)
     look-is =
         let z = f .polygon-is h in
         let s = rangeAt ls i in
@@ -126,18 +126,18 @@ module _ {ls : Lists} (a : AcceptedLists ls) {i : ℕ} {up down : List ℕ} {r :
         let l = fast s t ws in
         let kp = slow-fits s t ws ordered line .positive in
         let lp = fast-fits s t ws ordered line .positive in
-        outlook-by-lines s t ws ordered line (subst (λ x. x ≤ mostTime) (sym last-time) late) level
-        ∙ ap (λ x. lines (reduced k) (reduced l) (reachTime level x l) (reachTime level x k)) last-time
+        outlook-by-lines s t ws ordered line (subst (λ x. x ≤ mostTime) (sym last-time) late) v
+        ∙ ap (λ x. lines (reduced k) (reduced l) (reachTime v x l) (reachTime v x k)) last-time
         ∙ ap₂ (lines (reduced k) (reduced l))
-        (reachTime-same level last late lp (reduced-proper l lp .positive) (reduced-same l lp))
-        (reachTime-same level last late kp (reduced-proper k kp .positive) (reduced-same k kp))
-        ∙ ap₂ (λ x y. lookAhead (reduced x) (reduced y) level last) (sym (z .slow-is)) (sym (z .fast-is))
+        (reachTime-same v last late lp (reduced-proper l lp .positive) (reduced-same l lp))
+        (reachTime-same v last late kp (reduced-proper k kp .positive) (reduced-same k kp))
+        ∙ ap₂ (λ x y. lookAhead (reduced x) (reduced y) v last) (sym (z .slow-is)) (sym (z .fast-is))
 
-    pub next-lines : NextSegment level ls i (foundAt ls i (r .end) (lookAhead (reduced (lineOf (r .polygon .slow))) (reduced (lineOf (r .polygon .fast))) level (rangeAt ls (r .end - 1) .time)))
+    pub next-lines : NextSegment v ls i (foundAt ls i (r .end) (lookAhead (reduced (lineOf (r .polygon .slow))) (reduced (lineOf (r .polygon .fast))) v (rangeAt ls (r .end - 1) .time)))
     unfolding segmentOf endTime
     next-lines =
         let n : length (run ls i (r .end)) ≡ r .end - i = run-long ls a i (r .end) (f .begins) (f .within) in
-        next-is ls a i (r .end) (f .begins) (f .within) (f .line) (f .closed) level _
-        (ap (segmentOf level) run-is
+        next-is ls a i (r .end) (f .begins) (f .within) (f .line) (f .closed) v _
+        (ap (segmentOf v) run-is
         ∙ λ j. record { firstTime = rangeAt ls i .time; lastTime = last-time j; count = (ap length (sym run-is) ∙ n) j; outlook = look-is j })
         refl

@@ -10,8 +10,8 @@
 use Prim.Native.Nat.{ℕ}
 use mathlib.Core.Path.{_≡_}
 use mathlib.Core.List.{map}
-use lib.IntN.{ℤ}
 use lib.ListN.{length}
+use Rattle.definitions.specs.Services.{Service}
 use Rattle.definitions.specs.Ranges.{Lists}
 use Rattle.definitions.specs.Results.{numbersOf}
 use Rattle.definitions.specs.Answers.{Answer, refused, accepted, _>>=_, filled}
@@ -24,6 +24,6 @@ unfoldable pub segmentMeaning : SegmentAnswer → Answer ℕ
 segmentMeaning (Accepted n) = accepted n
 segmentMeaning (Refused e) = refused e
 
-pub record SegmentPromise (level : ℤ) (ls : Lists) (old new : Columns) (answer : SegmentAnswer) : Type 0 where
-  pub answer-is : segmentMeaning answer ≡ (segmentCall (lengths old) level ls >>= λ ss. accepted (length ss))
-  pub columns-are : EachColumn (λ A number column. column new ≡ filled (segmentCall (lengths old) level ls) (λ ss. map (λ s. number (numbersOf s)) ss) (column old))
+pub record SegmentPromise (v : Service) (ls : Lists) (old new : Columns) (answer : SegmentAnswer) : Type 0 where
+  pub answer-is : segmentMeaning answer ≡ (segmentCall (lengths old) v ls >>= λ ss. accepted (length ss))
+  pub columns-are : EachColumn (λ A number column. column new ≡ filled (segmentCall (lengths old) v ls) (λ ss. map (λ s. number (numbersOf s)) ss) (column old))

@@ -7,8 +7,8 @@
 use Prim.Native.Nat.{ℕ}
 use mathlib.Core.Path.{_≡_, sym, ap, _∙_}
 use mathlib.Core.List.{List, _++_, map, map-map}
-use lib.IntN.{ℤ}
 use lib.ListN.{length, drop, length-map}
+use Rattle.definitions.specs.Services.{Service}
 use Rattle.definitions.specs.Ranges.{Lists, rangesOf}
 use Rattle.definitions.specs.Results.{Numbers, Segment, numbersOf, segmentsOf}
 use Rattle.definitions.specs.Answers.{Answer, refused, accepted, _>>=_, firstRow, filled}
@@ -19,12 +19,12 @@ use Rattle.drift.specs.Columns.{Columns, lengths, AllStored}
 use Rattle.drift.specs.ColumnLaws.{each, each-apply}
 use Rattle.drift.specs.SegmentPromise.{segmentMeaning, SegmentPromise}
 
-module _ (level : ℤ) (ls : Lists) where
-  called : (ns : List ℕ) {a : Answer Unit} → firstRow (segmentRows ns level ls) ≡ a → (a >>= λ ok. accepted (segmentsOf level (rangesOf ls))) ≡ segmentCall ns level ls
+module _ (v : Service) (ls : Lists) where
+  called : (ns : List ℕ) {a : Answer Unit} → firstRow (segmentRows ns v ls) ≡ a → (a >>= λ ok. accepted (segmentsOf v (rangesOf ls))) ≡ segmentCall ns v ls
   unfolding segmentCall
-  called ns e = ap (λ a. a >>= λ ok. accepted (segmentsOf level (rangesOf ls))) (sym e)
+  called ns e = ap (λ a. a >>= λ ok. accepted (segmentsOf v (rangesOf ls))) (sym e)
 
-  pub promise-refused : (cs : Columns) (e : ℕ) → firstRow (segmentRows (lengths cs) level ls) ≡ refused e → SegmentPromise level ls cs cs (Refused e)
+  pub promise-refused : (cs : Columns) (e : ℕ) → firstRow (segmentRows (lengths cs) v ls) ≡ refused e → SegmentPromise v ls cs cs (Refused e)
   unfolding segmentMeaning _>>=_ filled
   promise-refused cs e f =
       record {
@@ -41,13 +41,13 @@ module _ (level : ℤ) (ls : Lists) where
       ∙ ap (λ l. l ++ drop (length (map numbersOf ss)) old) (map-map number numbersOf ss)
       ∙ ap (λ n. map (λ s. number (numbersOf s)) ss ++ drop n old) (length-map ss numbersOf ∙ sym (length-map ss (λ s. number (numbersOf s))))
 
-  pub promise-accepted : {old new : Columns} (n : ℕ) → firstRow (segmentRows (lengths old) level ls) ≡ accepted tt → AllStored n (segmentsOf level (rangesOf ls)) old new → SegmentPromise level ls old new (Accepted n)
+  pub promise-accepted : {old new : Columns} (n : ℕ) → firstRow (segmentRows (lengths old) v ls) ≡ accepted tt → AllStored n (segmentsOf v (rangesOf ls)) old new → SegmentPromise v ls old new (Accepted n)
   unfolding segmentMeaning _>>=_
   promise-accepted {old} {new} n f stored =
       record {
         answer-is = ap accepted (stored .count-is) ∙ ap (λ a. a >>= λ ss. accepted (length ss)) (called (lengths old) f);
         columns-are =
             each-apply
-            (each (λ A number column h. column-filled number (segmentsOf level (rangesOf ls)) (column old) (column new) h ∙ ap (λ a. filled a (λ ss. map (λ s. number (numbersOf s)) ss) (column old)) (called (lengths old) f)))
+            (each (λ A number column h. column-filled number (segmentsOf v (rangesOf ls)) (column old) (column new) h ∙ ap (λ a. filled a (λ ss. map (λ s. number (numbersOf s)) ss) (column old)) (called (lengths old) f)))
             (stored .columns-are);
       }

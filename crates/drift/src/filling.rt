@@ -2,19 +2,20 @@
 ghost use lib.ListN.{length};
 ghost use Rattle.definitions.specs.Ranges.{rangesOf};
 ghost use Rattle.definitions.specs.Results.{segmentsOf};
-ghost use Rattle.values.specs.Meanings.{segmentOf};
+ghost use Rattle.values.specs.Meanings.{serviceOf, segmentOf};
 ghost use Rattle.drift.specs.Columns.{columns, AllStored};
 ghost use Rattle.drift.specs.Filling.{StartReady, FillReady, NextSegment};
 use crate::rows::row_of;
 use fit::run::run_from;
 use values::Outlook;
 use values::Segment;
+use values::Service;
 use values::reaching::outlook_of;
 use values::storing::store_line;
 
 // The segment that begins at a range: the run from there on, and its outlook.
 fn segment_from(
-    level: i32,
+    v: Service,
     times: &[u32],
     lows: &[i32],
     highs: &[i32],
@@ -22,8 +23,8 @@ fn segment_from(
     down: &mut [u32],
     start: usize,
 ) -> Segment
-    requires { ⌜ StartReady level (record { times = now times; lows = now lows; highs = now highs }) (length (now up)) (length (now down)) start ⌝ }
-    ensures { λ r. ⌜ NextSegment level (record { times = now (times .entry); lows = now (lows .entry); highs = now (highs .entry) }) start (segmentOf r) ⌝ }
+    requires { ⌜ StartReady (serviceOf v) (record { times = now times; lows = now lows; highs = now highs }) (length (now up)) (length (now down)) start ⌝ }
+    ensures { λ r. ⌜ NextSegment (serviceOf v) (record { times = now (times .entry); lows = now (lows .entry); highs = now (highs .entry) }) start (segmentOf r) ⌝ }
 {
     let n = times.len() as u32;
     let begin = start as u32;
@@ -43,7 +44,7 @@ fn segment_from(
     let polygon = found.polygon;
     let slow = polygon.slow;
     let fast = polygon.fast;
-    let outlook = outlook_of(slow, fast, level, last_time);
+    let outlook = outlook_of(slow, fast, v, last_time);
     Segment {
         first_time,
         last_time,
@@ -54,7 +55,7 @@ fn segment_from(
 
 // Stores each segment at its place, and counts them. `up` and `down` hold the chains of the run at hand.
 pub fn fill(
-    level: i32,
+    v: Service,
     times: &[u32],
     lows: &[i32],
     highs: &[i32],
@@ -70,15 +71,15 @@ pub fn fill(
     somes: &mut [u64],
     alls: &mut [u64],
 ) -> usize
-    requires { ⌜ FillReady level (record { times = now times; lows = now lows; highs = now highs }) (columns (now «first_times») (now «last_times») (now counts) (now «slow_ps») (now «slow_qs») (now «slow_ds») (now «fast_ps») (now «fast_qs») (now «fast_ds») (now somes) (now alls)) ⌝ }
-    ensures { λ r. ⌜ AllStored r (segmentsOf level (rangesOf (record { times = now (times .entry); lows = now (lows .entry); highs = now (highs .entry) }))) (columns (now («first_times» .entry)) (now («last_times» .entry)) (now (counts .entry)) (now («slow_ps» .entry)) (now («slow_qs» .entry)) (now («slow_ds» .entry)) (now («fast_ps» .entry)) (now («fast_qs» .entry)) (now («fast_ds» .entry)) (now (somes .entry)) (now (alls .entry))) (columns (now («first_times» .exit)) (now («last_times» .exit)) (now (counts .exit)) (now («slow_ps» .exit)) (now («slow_qs» .exit)) (now («slow_ds» .exit)) (now («fast_ps» .exit)) (now («fast_qs» .exit)) (now («fast_ds» .exit)) (now (somes .exit)) (now (alls .exit))) ⌝ }
+    requires { ⌜ FillReady (serviceOf v) (record { times = now times; lows = now lows; highs = now highs }) (columns (now «first_times») (now «last_times») (now counts) (now «slow_ps») (now «slow_qs») (now «slow_ds») (now «fast_ps») (now «fast_qs») (now «fast_ds») (now somes) (now alls)) ⌝ }
+    ensures { λ r. ⌜ AllStored r (segmentsOf (serviceOf v) (rangesOf (record { times = now (times .entry); lows = now (lows .entry); highs = now (highs .entry) }))) (columns (now («first_times» .entry)) (now («last_times» .entry)) (now (counts .entry)) (now («slow_ps» .entry)) (now («slow_qs» .entry)) (now («slow_ds» .entry)) (now («fast_ps» .entry)) (now («fast_qs» .entry)) (now («fast_ds» .entry)) (now (somes .entry)) (now (alls .entry))) (columns (now («first_times» .exit)) (now («last_times» .exit)) (now (counts .exit)) (now («slow_ps» .exit)) (now («slow_qs» .exit)) (now («slow_ds» .exit)) (now («fast_ps» .exit)) (now («fast_qs» .exit)) (now («fast_ds» .exit)) (now (somes .exit)) (now (alls .exit))) ⌝ }
 {
     let mut up = [0u32; 4096];
     let mut down = [0u32; 4096];
     let mut start = 0;
     let mut count = 0;
     while start < times.len() {
-        let segment = segment_from(level, times, lows, highs, &mut up, &mut down, start);
+        let segment = segment_from(v, times, lows, highs, &mut up, &mut down, start);
         let ranges = segment.count as usize;
         let row = row_of(segment);
         first_times[count] = row.first_time;

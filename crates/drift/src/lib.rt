@@ -31,7 +31,7 @@ pub fn segment(
     somes: &mut [u64],
     alls: &mut [u64],
 ) -> SegmentAnswer
-    ensures { λ r. ⌜ SegmentPromise level (record { times = now (times .entry); lows = now (lows .entry); highs = now (highs .entry) }) (columns (now («first_times» .entry)) (now («last_times» .entry)) (now (counts .entry)) (now («slow_ps» .entry)) (now («slow_qs» .entry)) (now («slow_ds» .entry)) (now («fast_ps» .entry)) (now («fast_qs» .entry)) (now («fast_ds» .entry)) (now (somes .entry)) (now (alls .entry))) (columns (now («first_times» .exit)) (now («last_times» .exit)) (now (counts .exit)) (now («slow_ps» .exit)) (now («slow_qs» .exit)) (now («slow_ds» .exit)) (now («fast_ps» .exit)) (now («fast_qs» .exit)) (now («fast_ds» .exit)) (now (somes .exit)) (now (alls .exit))) r ⌝ }
+    ensures { λ r. ⌜ SegmentPromise (record { level = level }) (record { times = now (times .entry); lows = now (lows .entry); highs = now (highs .entry) }) (columns (now («first_times» .entry)) (now («last_times» .entry)) (now (counts .entry)) (now («slow_ps» .entry)) (now («slow_qs» .entry)) (now («slow_ds» .entry)) (now («fast_ps» .entry)) (now («fast_qs» .entry)) (now («fast_ds» .entry)) (now (somes .entry)) (now (alls .entry))) (columns (now («first_times» .exit)) (now («last_times» .exit)) (now (counts .exit)) (now («slow_ps» .exit)) (now («slow_qs» .exit)) (now («slow_ds» .exit)) (now («fast_ps» .exit)) (now («fast_qs» .exit)) (now («fast_ds» .exit)) (now (somes .exit)) (now (alls .exit))) r ⌝ }
 {
     let short = rows::too_short(
         first_times.len(),
@@ -51,8 +51,9 @@ pub fn segment(
     if number != 0 {
         return SegmentAnswer::Refused(number);
     }
+    let v = values::Service { level };
     let count = filling::fill(
-        level,
+        v,
         times,
         lows,
         highs,

@@ -93,7 +93,7 @@ pub after-write : (address : ℕ) (level : ℤ) (ls : Lists) (old new : WriteLen
 after-write address level ls old new h counts =
     record { counted = counts-told length (writeInto (old .file) address level ls) (h .answer-is) (λ n. n) length (λ bytes. refl) (old .count) counts; file-is = h .file-is }
 
-pub after-segment : (level : ℤ) (ls : Lists) (old new : SegmentLent) {answer : SegmentAnswer} {r : ℕ} → SegmentPromise level ls (old .columns) (new .columns) answer
+pub after-segment : (level : ℤ) (ls : Lists) (old new : SegmentLent) {answer : SegmentAnswer} {r : ℕ} → SegmentPromise (record { level = level }) ls (old .columns) (new .columns) answer
     → Counts (segmentMeaning answer) (λ n. n) (old .count) (new .count) r → AfterSegment level ls old new r
 after-segment level ls old new h counts =
     record { counted = counts-told length (segmentAnswer level ls old) (h .answer-is) (λ n. n) length (λ ss. refl) (old .count) counts; columns-are = h .columns-are }

@@ -74,7 +74,7 @@ pub record SegmentLent : Type 0 where
   pub count : ℕ
 
 abbrev pub segmentAnswer : ℤ → Lists → SegmentLent → Answer (List Segment)
-segmentAnswer level ls old = segmentCall (lengths (old .columns)) level ls
+segmentAnswer level ls old = segmentCall (lengths (old .columns)) (record { level = level }) ls
 
 pub record AfterSegment (level : ℤ) (ls : Lists) (old new : SegmentLent) (r : ℕ) : Type 0 where
   pub counted : Counts (segmentAnswer level ls old) length (old .count) (new .count) r

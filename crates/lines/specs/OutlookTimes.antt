@@ -29,6 +29,7 @@ use Rattle.integers.specs.Booleans.{or-left, or-right}
 use Rattle.integers.specs.Lists.{all, any, All, Any, any-means, any-passes, all-means, all-passes, All-in, here, in-last}
 use Rattle.integers.specs.Least.{IsLeast, nowhere, least-unique, least-iff, AtAnEnd, firstByEnds, firstByEnds-least}
 use Rattle.integers.specs.Crossing.{firstReach, firstReach-is, reaches-iff, reach-never}
+use Rattle.definitions.specs.Services.{Service}
 use Rattle.definitions.specs.Spans.{mostTime}
 use Rattle.definitions.specs.Times.{Time}
 use Rattle.definitions.specs.Ranges.{Range}
@@ -57,38 +58,38 @@ reaches-end level l from to t a b r =
     never (nowhere h) = h
 
 -- the first time from `from` on at which it does
-abbrev pub reachTime : ℤ → ℕ → Line → Time
-reachTime level from l = firstReach (l .p) (l .q) (l .d *ℤ level) from mostTime
+abbrev pub reachTime : Service → ℕ → Line → Time
+reachTime v from l = firstReach (l .p) (l .q) (l .d *ℤ v .level) from mostTime
 
-pub reachTime-least : (level : ℤ) (from : ℕ) (l : Line) → from ≤ mostTime → IsLeast (λ t. Reaches level t l) from mostTime (reachTime level from l)
+pub reachTime-least : (v : Service) (from : ℕ) (l : Line) → from ≤ mostTime → IsLeast (λ t. Reaches (v .level) t l) from mostTime (reachTime v from l)
 unfolding reading
-reachTime-least level from l h = firstReach-is (l .p) (l .q) (l .d *ℤ level) from mostTime h
+reachTime-least v from l h = firstReach-is (l .p) (l .q) (l .d *ℤ v .level) from mostTime h
 
-pub reachTime-same : (level : ℤ) (from : ℕ) {k l : Line} → from ≤ mostTime → pos 0 <ℤ k .d → pos 0 <ℤ l .d → SameLine k l → reachTime level from k ≡ reachTime level from l
-reachTime-same level from {k} {l} h over-k over-l same =
-    least-unique (least-iff (λ t a b. reaches-same (record { same = same; left-positive = over-k; right-positive = over-l }) level t) (reachTime-least level from k h)) (reachTime-least level from l h)
+pub reachTime-same : (v : Service) (from : ℕ) {k l : Line} → from ≤ mostTime → pos 0 <ℤ k .d → pos 0 <ℤ l .d → SameLine k l → reachTime v from k ≡ reachTime v from l
+reachTime-same v from {k} {l} h over-k over-l same =
+    least-unique (least-iff (λ t a b. reaches-same (record { same = same; left-positive = over-k; right-positive = over-l }) (v .level) t) (reachTime-least v from k h)) (reachTime-least v from l h)
 
 -- ---- a test that one line decides
-pub record DecidedBy (level : ℤ) (l : Line) (from : ℕ) (test : ℕ → Bool) (P : ℕ → Type 0) : Type 0 where
-  pub test-iff : (t : ℕ) → from ≤ t → T (test t) ↔ Reaches level t l
-  pub holds-iff : (t : ℕ) → from ≤ t → P t ↔ Reaches level t l
+pub record DecidedBy (v : Service) (l : Line) (from : ℕ) (test : ℕ → Bool) (P : ℕ → Type 0) : Type 0 where
+  pub test-iff : (t : ℕ) → from ≤ t → T (test t) ↔ Reaches (v .level) t l
+  pub holds-iff : (t : ℕ) → from ≤ t → P t ↔ Reaches (v .level) t l
 
-module _ {level : ℤ} {l : Line} {from : ℕ} {test : ℕ → Bool} {P : ℕ → Type 0} (d : DecidedBy level l from test P) where
+module _ {v : Service} {l : Line} {from : ℕ} {test : ℕ → Bool} {P : ℕ → Type 0} (d : DecidedBy v l from test P) where
   pub decided-ends : (to : ℕ) → AtAnEnd test from to
   decided-ends to t a b p =
-      elim (reaches-end level l from to t a b (d .test-iff t a .0 p)) [
+      elim (reaches-end (v .level) l from to t a b (d .test-iff t a .0 p)) [
         | inl r ↦ or-left (test from) (test to) (d .test-iff from (le-refl from) .1 r)
         | inr r ↦ or-right (test from) (test to) (d .test-iff to (le-trans a b) .1 r)
       ]
 
-  decided-line : IsLeast (λ t. Reaches level t l) from mostTime (firstByEnds test from mostTime)
+  decided-line : IsLeast (λ t. Reaches (v .level) t l) from mostTime (firstByEnds test from mostTime)
   decided-line = least-iff (λ t a b. d .test-iff t a) (firstByEnds-least test from mostTime (decided-ends mostTime))
 
   pub decided-least : IsLeast P from mostTime (firstByEnds test from mostTime)
   decided-least = least-iff (λ t a b. (d .holds-iff t a .1, d .holds-iff t a .0)) decided-line
 
-  pub decided-reach : from ≤ mostTime → firstByEnds test from mostTime ≡ reachTime level from l
-  decided-reach h = least-unique decided-line (reachTime-least level from l h)
+  pub decided-reach : from ≤ mostTime → firstByEnds test from mostTime ≡ reachTime v from l
+  decided-reach h = least-unique decided-line (reachTime-least v from l h)
 
 -- ---- the slow and the fast line
 
@@ -105,62 +106,62 @@ pub record Listed (rs : List Range) (slow fast : Line) (ls : List Line) : Type 0
   pub has-slow : Any (SameLine slow) ls
   pub has-fast : Any (SameLine fast) ls
 
-module _ {rs : List Range} {from : ℕ} {slow fast : Line} (e : ExtremesOf rs from slow fast) {ls : List Line} (among : Listed rs slow fast ls) (level : ℤ) where
+module _ {rs : List Range} {from : ℕ} {slow fast : Line} (e : ExtremesOf rs from slow fast) {ls : List Line} (among : Listed rs slow fast ls) (v : Service) where
   -- a line of the fit reaches the level exactly where the one of the list does that is the same line
-  listed-reaches : {l : Line} → InFit rs l → (k : Any (SameLine l) ls) → (t : ℕ) → Reaches level t l ↔ Reaches level t (k .entry)
-  listed-reaches f k t = reaches-same (record { same = k .holds; left-positive = f .positive; right-positive = All-in (among .fit) (k .among) .positive }) level t
+  listed-reaches : {l : Line} → InFit rs l → (k : Any (SameLine l) ls) → (t : ℕ) → Reaches (v .level) t l ↔ Reaches (v .level) t (k .entry)
+  listed-reaches f k t = reaches-same (record { same = k .holds; left-positive = f .positive; right-positive = All-in (among .fit) (k .among) .positive }) (v .level) t
 
-  pub some-decided : DecidedBy level fast from (λ t. any (atOrAbove level t) ls) (SomeReaches rs level)
+  pub some-decided : DecidedBy v fast from (λ t. any (atOrAbove (v .level) t) ls) (SomeReaches rs v)
   some-decided = record { test-iff = λ t a. (λ p. reaches t a (found t p), listed t); holds-iff = λ t a. (reaches t a, λ r. record { line = fast; fit = e .fast-fit; reaches = r }) }
     where
-      found : (t : ℕ) → T (any (atOrAbove level t) ls) → SomeReaches rs level t
+      found : (t : ℕ) → T (any (atOrAbove (v .level) t) ls) → SomeReaches rs v t
       found t p =
-          let k = any-means (atOrAbove level t) (λ l. atOrAbove-iff level t l .0) ls p in
+          let k = any-means (atOrAbove (v .level) t) (λ l. atOrAbove-iff (v .level) t l .0) ls p in
           record { line = k .entry; fit = All-in (among .fit) (k .among); reaches = k .holds }
 
-      reaches : (t : ℕ) → from ≤ t → SomeReaches rs level t → Reaches level t fast
-      reaches t a s = e .fast-highest level t a (s .line) (s .fit) (s .reaches)
+      reaches : (t : ℕ) → from ≤ t → SomeReaches rs v t → Reaches (v .level) t fast
+      reaches t a s = e .fast-highest (v .level) t a (s .line) (s .fit) (s .reaches)
 
-      listed : (t : ℕ) → Reaches level t fast → T (any (atOrAbove level t) ls)
+      listed : (t : ℕ) → Reaches (v .level) t fast → T (any (atOrAbove (v .level) t) ls)
       listed t r =
           let k = among .has-fast in
-          any-passes (atOrAbove level t) (λ l. atOrAbove-iff level t l .1) (record { entry = k .entry; among = k .among; holds = listed-reaches (e .fast-fit) k t .0 r })
+          any-passes (atOrAbove (v .level) t) (λ l. atOrAbove-iff (v .level) t l .1) (record { entry = k .entry; among = k .among; holds = listed-reaches (e .fast-fit) k t .0 r })
 
-  pub all-decided : DecidedBy level slow from (λ t. all (atOrAbove level t) ls) (AllReach rs level)
-  all-decided = record { test-iff = λ t a. (listed t, λ r. passes t (e .slow-lowest level t a r)); holds-iff = λ t a. (λ every. every slow (e .slow-fit), e .slow-lowest level t a) }
+  pub all-decided : DecidedBy v slow from (λ t. all (atOrAbove (v .level) t) ls) (AllReach rs v)
+  all-decided = record { test-iff = λ t a. (listed t, λ r. passes t (e .slow-lowest (v .level) t a r)); holds-iff = λ t a. (λ every. every slow (e .slow-fit), e .slow-lowest (v .level) t a) }
     where
-      passes : (t : ℕ) → AllReach rs level t → T (all (atOrAbove level t) ls)
-      passes t every = all-passes (atOrAbove level t) (λ l f. atOrAbove-iff level t l .1 (every l f)) (among .fit)
+      passes : (t : ℕ) → AllReach rs v t → T (all (atOrAbove (v .level) t) ls)
+      passes t every = all-passes (atOrAbove (v .level) t) (λ l f. atOrAbove-iff (v .level) t l .1 (every l f)) (among .fit)
 
-      listed : (t : ℕ) → T (all (atOrAbove level t) ls) → Reaches level t slow
+      listed : (t : ℕ) → T (all (atOrAbove (v .level) t) ls) → Reaches (v .level) t slow
       listed t p =
           let k = among .has-slow in
-          listed-reaches (e .slow-fit) k t .1 (All-in (all-means (atOrAbove level t) (λ l. atOrAbove-iff level t l .0) ls p) (k .among))
+          listed-reaches (e .slow-fit) k t .1 (All-in (all-means (atOrAbove (v .level) t) (λ l. atOrAbove-iff (v .level) t l .0) ls p) (k .among))
 
-  pub some-least : IsLeast (SomeReaches rs level) from mostTime (someTime level from ls)
+  pub some-least : IsLeast (SomeReaches rs v) from mostTime (someTime v from ls)
   unfolding someTime
   some-least = decided-least some-decided
 
-  pub all-least : IsLeast (AllReach rs level) from mostTime (allTime level from ls)
+  pub all-least : IsLeast (AllReach rs v) from mostTime (allTime v from ls)
   unfolding allTime
   all-least = decided-least all-decided
 
-  pub some-by-fast : from ≤ mostTime → someTime level from ls ≡ reachTime level from fast
+  pub some-by-fast : from ≤ mostTime → someTime v from ls ≡ reachTime v from fast
   unfolding someTime
   some-by-fast h = decided-reach some-decided h
 
-  pub all-by-slow : from ≤ mostTime → allTime level from ls ≡ reachTime level from slow
+  pub all-by-slow : from ≤ mostTime → allTime v from ls ≡ reachTime v from slow
   unfolding allTime
   all-by-slow h = decided-reach all-decided h
 
 module _ (r s : Range) (rs : List Range) {slow fast : Line} (e : ExtremesOf (r ∷ s ∷ rs) (endTime s rs) slow fast) (fit : All (InFit (r ∷ s ∷ rs)) (fitting (r ∷ s ∷ rs)))
-    (late : endTime s rs ≤ mostTime) {k : Line} {ks : List Line} (is : fitting (r ∷ s ∷ rs) ≡ k ∷ ks) (level : ℤ) where
+    (late : endTime s rs ≤ mostTime) {k : Line} {ks : List Line} (is : fitting (r ∷ s ∷ rs) ≡ k ∷ ks) (v : Service) where
   pub outlook-is : SameLine slow k → SameLine fast (getLastD ks k)
-      → outlook level (r ∷ s ∷ rs) ≡ lines k (getLastD ks k) (reachTime level (endTime s rs) fast) (reachTime level (endTime s rs) slow)
+      → outlook v (r ∷ s ∷ rs) ≡ lines k (getLastD ks k) (reachTime v (endTime s rs) fast) (reachTime v (endTime s rs) slow)
   unfolding outlook outlookOf
   outlook-is first last =
-      ap (outlookOf level (endTime s rs)) is
-      ∙ ap₂ (lines k (getLastD ks k)) (some-by-fast e among level late) (all-by-slow e among level late)
+      ap (outlookOf v (endTime s rs)) is
+      ∙ ap₂ (lines k (getLastD ks k)) (some-by-fast e among v late) (all-by-slow e among v late)
     where
       among : Listed (r ∷ s ∷ rs) slow fast (k ∷ ks)
       among =
@@ -171,7 +172,7 @@ module _ (r s : Range) (rs : List Range) {slow fast : Line} (e : ExtremesOf (r �
           }
 
   pub outlook-reduced : k ≡ reduced slow → getLastD ks k ≡ reduced fast
-      → outlook level (r ∷ s ∷ rs) ≡ lines (reduced slow) (reduced fast) (reachTime level (endTime s rs) fast) (reachTime level (endTime s rs) slow)
+      → outlook v (r ∷ s ∷ rs) ≡ lines (reduced slow) (reduced fast) (reachTime v (endTime s rs) fast) (reachTime v (endTime s rs) slow)
   outlook-reduced first last =
       outlook-is (subst (SameLine slow) (sym first) (reduced-same slow (e .slow-fit .positive))) (subst (SameLine fast) (sym last) (reduced-same fast (e .fast-fit .positive)))
-      ∙ ap₂ (λ j m. lines j m (reachTime level (endTime s rs) fast) (reachTime level (endTime s rs) slow)) first last
+      ∙ ap₂ (λ j m. lines j m (reachTime v (endTime s rs) fast) (reachTime v (endTime s rs) slow)) first last

@@ -10,11 +10,11 @@ use mathlib.Core.Logic.{inl, inr}
 use mathlib.Core.List.{List, [], _∷_, getLastD}
 use Prim.Native.Nat.{ℕ, _≤_}
 use lib.Dec.{T}
-use lib.IntN.{ℤ}
 use Rattle.integers.specs.OrderLaws.{<ℤ→≤ℤ, ≤ℤ-of-≡}
 use Rattle.integers.specs.Lists.{All, cons, Any, In, here, in-last, not-in-nil, All-in, All-imp}
 use Rattle.integers.specs.Least.{IsLeast}
 use Rattle.integers.specs.Sorting.{Rising, rising-head, rising-last}
+use Rattle.definitions.specs.Services.{Service}
 use Rattle.definitions.specs.Spans.{mostTime}
 use Rattle.definitions.specs.Times.{Time}
 use Rattle.definitions.specs.Ranges.{Range}
@@ -47,15 +47,15 @@ last-greatest : (k : Line) (ks : List Line) → Rising before (k ∷ ks) → All
 last-greatest k ks r =
     All-imp (λ m a. elim a [ inl e ↦ subst (λ l. SlopeAtMost m l) e (slope-refl m) | inr t ↦ before-slope m (getLastD ks k) t ]) (rising-last before k ks r)
 
-pub record OutlookMeans (level : ℤ) (rs : List Range) (from : ℕ) (k l : Line) (some all : Time) : Type 0 where
+pub record OutlookMeans (v : Service) (rs : List Range) (from : ℕ) (k l : Line) (some all : Time) : Type 0 where
   pub slow-proper : Proper k
   pub slow-fit : InFit rs k
   pub slow-least : (m : Line) → InFit rs m → SlopeAtMost k m
   pub fast-proper : Proper l
   pub fast-fit : InFit rs l
   pub fast-greatest : (m : Line) → InFit rs m → SlopeAtMost m l
-  pub some-is : IsLeast (SomeReaches rs level) from mostTime some
-  pub all-is : IsLeast (AllReach rs level) from mostTime all
+  pub some-is : IsLeast (SomeReaches rs v) from mostTime some
+  pub all-is : IsLeast (AllReach rs v) from mostTime all
 
 module _ (r s : Range) (ws : List Range) (o : Ordered (r ∷ s ∷ ws)) (h : HasLine (r ∷ s ∷ ws)) where
   -- a line that the polygon lists is, in lowest terms, one of the fitting lines
@@ -109,12 +109,12 @@ module _ (r s : Range) (ws : List Range) (o : Ordered (r ∷ s ∷ ws)) (h : Has
             last = sym (reduced-is (fast-fits r s ws o h .positive) (All-in proper (in-last k ks)) (same-sym (fast-only r s ws o h m m-fit m-slope)));
           }
 
-  module _ (late : endTime s ws ≤ mostTime) (level : ℤ) where
-    pub outlook-by-lines : outlook level (r ∷ s ∷ ws)
-        ≡ lines (reduced (slow r s ws)) (reduced (fast r s ws)) (reachTime level (endTime s ws) (fast r s ws)) (reachTime level (endTime s ws) (slow r s ws))
+  module _ (late : endTime s ws ≤ mostTime) (v : Service) where
+    pub outlook-by-lines : outlook v (r ∷ s ∷ ws)
+        ≡ lines (reduced (slow r s ws)) (reduced (fast r s ws)) (reachTime v (endTime s ws) (fast r s ws)) (reachTime v (endTime s ws) (slow r s ws))
     outlook-by-lines =
         let e = first-last in
-        outlook-reduced r s ws (extremes-of r s ws o h) (fitting-fit (r ∷ s ∷ ws) o) late (e .is) level (e .first) (e .last)
+        outlook-reduced r s ws (extremes-of r s ws o h) (fitting-fit (r ∷ s ∷ ws) o) late (e .is) v (e .first) (e .last)
 
   listed : Listed (r ∷ s ∷ ws) (slow r s ws) (fast r s ws) (fitting (r ∷ s ∷ ws))
   listed =
@@ -125,19 +125,19 @@ module _ (r s : Range) (ws : List Range) (o : Ordered (r ∷ s ∷ ws)) (h : Has
       }
 
   -- the outlook of a run, and what it means of all lines of the fit
-  pub outlook-means : (level : ℤ) → (k : Line) × (l : Line) × (some : Time) × (all : Time) × (outlook level (r ∷ s ∷ ws) ≡ lines k l some all) × OutlookMeans level (r ∷ s ∷ ws) (endTime s ws) k l some all
+  pub outlook-means : (v : Service) → (k : Line) × (l : Line) × (some : Time) × (all : Time) × (outlook v (r ∷ s ∷ ws) ≡ lines k l some all) × OutlookMeans v (r ∷ s ∷ ws) (endTime s ws) k l some all
   unfolding outlook outlookOf
-  outlook-means level =
+  outlook-means v =
       let e = first-last in
       let from = endTime s ws in
       let ls = fitting (r ∷ s ∷ ws) in
-      (e .line, getLastD (e .more) (e .line), someTime level from ls, allTime level from ls, shown e, means e)
+      (e .line, getLastD (e .more) (e .line), someTime v from ls, allTime v from ls, shown e, means e)
     where
-      shown : (e : FirstLast) → outlook level (r ∷ s ∷ ws) ≡ lines (e .line) (getLastD (e .more) (e .line)) (someTime level (endTime s ws) (fitting (r ∷ s ∷ ws))) (allTime level (endTime s ws) (fitting (r ∷ s ∷ ws)))
+      shown : (e : FirstLast) → outlook v (r ∷ s ∷ ws) ≡ lines (e .line) (getLastD (e .more) (e .line)) (someTime v (endTime s ws) (fitting (r ∷ s ∷ ws))) (allTime v (endTime s ws) (fitting (r ∷ s ∷ ws)))
       shown e =
-          subst (λ ls. outlookOf level (endTime s ws) ls ≡ lines (e .line) (getLastD (e .more) (e .line)) (someTime level (endTime s ws) ls) (allTime level (endTime s ws) ls)) (sym (e .is)) refl
+          subst (λ ls. outlookOf v (endTime s ws) ls ≡ lines (e .line) (getLastD (e .more) (e .line)) (someTime v (endTime s ws) ls) (allTime v (endTime s ws) ls)) (sym (e .is)) refl
 
-      means : (e : FirstLast) → OutlookMeans level (r ∷ s ∷ ws) (endTime s ws) (e .line) (getLastD (e .more) (e .line)) (someTime level (endTime s ws) (fitting (r ∷ s ∷ ws))) (allTime level (endTime s ws) (fitting (r ∷ s ∷ ws)))
+      means : (e : FirstLast) → OutlookMeans v (r ∷ s ∷ ws) (endTime s ws) (e .line) (getLastD (e .more) (e .line)) (someTime v (endTime s ws) (fitting (r ∷ s ∷ ws))) (allTime v (endTime s ws) (fitting (r ∷ s ∷ ws)))
       means e =
           let f = slow-fits r s ws o h in
           let g = fast-fits r s ws o h in
@@ -148,6 +148,6 @@ module _ (r s : Range) (ws : List Range) (o : Ordered (r ∷ s ∷ ws)) (h : Has
             fast-proper = subst Proper (sym (e .last)) (reduced-proper (fast r s ws) (g .positive));
             fast-fit = subst (InFit (r ∷ s ∷ ws)) (sym (e .last)) (InFit-same (reduced-restates (g .positive)) g);
             fast-greatest = λ m k. subst (λ l. SlopeAtMost m l) (sym (e .last)) (order-≤ (slope-same {k = m} {k′ = m} {l = fast r s ws} {l′ = reduced (fast r s ws)} (restates-refl (k .positive)) (reduced-restates (g .positive))) (fast-greatest r s ws o h m k));
-            some-is = some-least (extremes-of r s ws o h) listed level;
-            all-is = all-least (extremes-of r s ws o h) listed level;
+            some-is = some-least (extremes-of r s ws o h) listed v;
+            all-is = all-least (extremes-of r s ws o h) listed v;
           }

@@ -32,6 +32,7 @@ use lib.ListN.{length, getD}
 use lib.Signed.{_<ℤ_}
 use Rattle.integers.specs.Lists.{All, All-of, In, filter}
 use Rattle.integers.specs.LowestTerms.{InLowestTerms}
+use Rattle.definitions.specs.Services.{Service}
 use Rattle.definitions.specs.Spans.{mostRanges, segmentRoom}
 use Rattle.definitions.specs.Ranges.{Range}
 use Rattle.definitions.specs.Lines.{Line, hasLine}
@@ -90,8 +91,8 @@ module _ (rs : List Range) (o : Ordered rs) where
   pub segments-split : Split HasLine rs (segments rs)
   segments-split = Splits.segments-split decides rs o
 
-  pub segments-times : (level : ℤ) (j : ℕ) → j < length (segments rs) → TimesOf (getD (segments rs) j []) (getD (segmentsOf level rs) j (segmentOf level []))
-  segments-times level = Splits.segments-times decides level rs o
+  pub segments-times : (v : Service) (j : ℕ) → j < length (segments rs) → TimesOf (getD (segments rs) j []) (getD (segmentsOf v rs) j (segmentOf v []))
+  segments-times v = Splits.segments-times decides v rs o
 
   pub segments-ranges : (j : ℕ) → j < length (segments rs) → filter (inSpan (firstTimeOf (getD (segments rs) j [])) (lastTimeOf (getD (segments rs) j []))) rs ≡ getD (segments rs) j []
   segments-ranges = Splits.segments-ranges decides rs o

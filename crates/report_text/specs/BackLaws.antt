@@ -13,12 +13,13 @@ use mathlib.Core.List.{List, [], _∷_, flatten}
 use native.Mathlib.Omega.{arith}
 use borrow.Author.Tests.{ne-eqb}
 use lib.Dec.{T}
-use lib.IntN.{ℤ, pos}
+use lib.IntN.{pos}
 use lib.Signed.{ltZ, _<ℤ_}
 use lib.ListN.{getD}
 use Rattle.integers.specs.Booleans.{T→true}
 use Rattle.integers.specs.Lists.{All, All-head}
 use Rattle.integers.specs.Least.{IsLeast, least-at, first, firstByEnds, first-least}
+use Rattle.definitions.specs.Services.{Service}
 use Rattle.definitions.specs.Spans.{mostTime}
 use Rattle.definitions.specs.Times.{Time}
 use Rattle.definitions.specs.Ranges.{Range}
@@ -72,16 +73,16 @@ unfolding outlookFrom numbers
 outlook-back a b n open-strip h = refl
 outlook-back a b n (lines k l x y) h = rw (T→true {b = ltZ (pos 0) (k .d)} (h .0 .lt)) (ap₂ (lines k l) (time-back x (h .1)) (time-back y (h .2)))
 
-found-plain : (level : ℤ) (from : ℕ) (ls : List Line) → All Proper ls → Plain (outlookOf level from ls)
+found-plain : (v : Service) (from : ℕ) (ls : List Line) → All Proper ls → Plain (outlookOf v from ls)
 unfolding outlookOf someTime allTime
-found-plain level from [] h = tt
-found-plain level from (l ∷ ls) h = (All-head h .positive, found-in _ from, found-in _ from)
+found-plain v from [] h = tt
+found-plain v from (l ∷ ls) h = (All-head h .positive, found-in _ from, found-in _ from)
 
-plain : (level : ℤ) (run : List Range) → Ordered run → Plain (outlook level run)
+plain : (v : Service) (run : List Range) → Ordered run → Plain (outlook v run)
 unfolding outlook
-plain level [] o = tt
-plain level (r ∷ []) o = tt
-plain level (r ∷ s ∷ rs) o = found-plain level (endTime s rs) (fitting (r ∷ s ∷ rs)) (fitting-proper (r ∷ s ∷ rs) o)
+plain v [] o = tt
+plain v (r ∷ []) o = tt
+plain v (r ∷ s ∷ rs) o = found-plain v (endTime s rs) (fitting (r ∷ s ∷ rs)) (fitting-proper (r ∷ s ∷ rs) o)
 
 -- ---- segments
 
@@ -94,13 +95,13 @@ whole-back s h =
     let o = s .outlook in
     λ i. record { firstTime = first-number a b n o i; lastTime = last-number a b n o i; count = count-number a b n o i; outlook = outlook-back a b n o h i }
 
-pub segment-back : (level : ℤ) (run : List Range) → Ordered run → segmentFrom (numbersOf (segmentOf level run)) ≡ segmentOf level run
+pub segment-back : (v : Service) (run : List Range) → Ordered run → segmentFrom (numbersOf (segmentOf v run)) ≡ segmentOf v run
 unfolding segmentOf
-segment-back level run o = whole-back (segmentOf level run) (by run o)
+segment-back v run o = whole-back (segmentOf v run) (by run o)
   where
-    by : (run : List Range) → Ordered run → Plain (segmentOf level run .outlook)
+    by : (run : List Range) → Ordered run → Plain (segmentOf v run .outlook)
     by [] o = tt
-    by (r ∷ rs) o = plain level (r ∷ rs) o
+    by (r ∷ rs) o = plain v (r ∷ rs) o
 
 ordered-at : (runs : List (List Range)) → Ordered (flatten runs) → (j : ℕ) → Ordered (getD runs j [])
 unfolding flatten
@@ -108,6 +109,6 @@ ordered-at [] o j = tt
 ordered-at (run ∷ runs) o zero = ordered-left run (flatten runs) o
 ordered-at (run ∷ runs) o (suc j) = ordered-at runs (ordered-right run (flatten runs) o) j
 
-pub segments-back : (level : ℤ) (rs : List Range) → Ordered rs → (j : ℕ) → let s = getD (segmentsOf level rs) j (segmentOf level []) in segmentFrom (numbersOf s) ≡ s
-segments-back level rs o j =
-    subst (λ s. segmentFrom (numbersOf s) ≡ s) (sym (segmentsOf-at level rs j)) (segment-back level (getD (segments rs) j []) (ordered-at (segments rs) (subst Ordered (sym (segments-split rs o .whole)) o) j))
+pub segments-back : (v : Service) (rs : List Range) → Ordered rs → (j : ℕ) → let s = getD (segmentsOf v rs) j (segmentOf v []) in segmentFrom (numbersOf s) ≡ s
+segments-back v rs o j =
+    subst (λ s. segmentFrom (numbersOf s) ≡ s) (sym (segmentsOf-at v rs j)) (segment-back v (getD (segments rs) j []) (ordered-at (segments rs) (subst Ordered (sym (segments-split rs o .whole)) o) j))

@@ -40,4 +40,4 @@ answerText address level ranges (refused n) = refusedLine n
 answerText address level ranges (accepted ss) = traceLine address level ranges (length ss) ++ segmentLines 1 ss
 
 unfoldable pub listsText : ℕ → ℤ → Lists → List ℕ
-listsText address level ls = answerText address level (length (ls .times)) (segmentCall (replicate 11 segmentRoom) level ls)
+listsText address level ls = answerText address level (length (ls .times)) (segmentCall (replicate 11 segmentRoom) (record { level = level }) ls)

@@ -35,21 +35,21 @@ times-long : (rs : List Range) → length (listsOf rs .times) ≡ length rs
 unfolding listsOf
 times-long rs = length-map rs (λ r. r .time)
 
-lists-taken : (t : Trace) → TraceTried t → segmentCall (replicate 11 segmentRoom) (t .level) (listsOf (t .ranges)) ≡ accepted (segmentsOf (t .level) (t .ranges))
+lists-taken : (t : Trace) → TraceTried t → segmentCall (replicate 11 segmentRoom) (record { level = t .level }) (listsOf (t .ranges)) ≡ accepted (segmentsOf (record { level = t .level }) (t .ranges))
 unfolding segmentCall segmentRows listRows tooShort any _>>=_
 lists-taken t h =
     let rs = t .ranges in
     let back = ranges-of-lists rs in
     let few = le-ltb mostRanges (length (listsOf rs .times)) (omega (arith, times-long rs, h .count-in)) in
     let rows = subst (λ l. NoneHolds (rangesRows none l)) (sym back) (h .ranges-in) in
-    let passed = first-row-accepted (segmentRows (replicate 11 segmentRoom) (t .level) (listsOf rs)) .1 (refl, (lists-alike rs, (few, (h .level-in, rows)))) in
-    ap (λ a. a >>= λ ok. accepted (segmentsOf (t .level) (rangesOf (listsOf rs)))) passed ∙ ap (λ l. accepted (segmentsOf (t .level) l)) back
+    let passed = first-row-accepted (segmentRows (replicate 11 segmentRoom) (record { level = t .level }) (listsOf rs)) .1 (refl, (lists-alike rs, (few, (h .level-in, rows)))) in
+    ap (λ a. a >>= λ ok. accepted (segmentsOf (record { level = t .level }) (rangesOf (listsOf rs)))) passed ∙ ap (λ l. accepted (segmentsOf (record { level = t .level }) l)) back
 
 pub report-of-lists : (bs : List ℕ) (t : Trace) → readFile bs ≡ accepted t → listsText (t .address) (t .level) (listsOf (t .ranges)) ≡ report bs
 unfolding listsText answerText report reportText traceText
 report-of-lists bs t e =
     ap (answerText (t .address) (t .level) (length (listsOf (t .ranges) .times))) (lists-taken t (read-tried bs t e))
-    ∙ ap (λ n. traceLine (t .address) (t .level) n (length (segmentsOf (t .level) (t .ranges))) ++ segmentLines 1 (segmentsOf (t .level) (t .ranges))) (times-long (t .ranges))
+    ∙ ap (λ n. traceLine (t .address) (t .level) n (length (segmentsOf (record { level = t .level }) (t .ranges))) ++ segmentLines 1 (segmentsOf (record { level = t .level }) (t .ranges))) (times-long (t .ranges))
     ∙ sym (ap reportText e)
 
 pub report-refused : (bs : List ℕ) (n : ℕ) → readFile bs ≡ refused n → refusedLine n ≡ report bs

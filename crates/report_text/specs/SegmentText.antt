@@ -13,6 +13,7 @@ use native.Mathlib.Omega.{arith}
 use lib.IntN.{ℤ, pos}
 use lib.ListN.{length, getD, take, replicate, length-replicate, length-map}
 use lib.Seq.{take-suc, take-all, length-take-le}
+use Rattle.definitions.specs.Services.{Service}
 use Rattle.definitions.specs.Spans.{segmentRoom}
 use Rattle.definitions.specs.Ranges.{Range, Lists, rangesOf}
 use Rattle.definitions.specs.Segments.{segments}
@@ -57,20 +58,20 @@ zero-lengths =
 
 -- ---- where Segment accepted
 
-module _ {level : ℤ} {ls : Lists} {old new : Columns} {n : ℕ} (promise : SegmentPromise level ls old new (Accepted n)) where
+module _ {v : Service} {ls : Lists} {old new : Columns} {n : ℕ} (promise : SegmentPromise v ls old new (Accepted n)) where
   abbrev rs : List Range
   rs = rangesOf ls
 
   abbrev ss : List Segment
-  ss = segmentsOf level rs
+  ss = segmentsOf v rs
 
   pub few-given : n ≤ segmentRoom
   unfolding segmentsOf
   few-given =
       let lists = taken promise in
-      omega (arith, count-is promise, length-map (segments rs) (segmentOf level), segments-room rs (ordered promise) (omega (arith, lists .few, ranges-length ls (lists .same))))
+      omega (arith, count-is promise, length-map (segments rs) (segmentOf v), segments-room rs (ordered promise) (omega (arith, lists .few, ranges-length ls (lists .same))))
 
-  row-at : (j : ℕ) → j < n → rowAt new j ≡ numbersOf (getD ss j (segmentOf level []))
+  row-at : (j : ℕ) → j < n → rowAt new j ≡ numbersOf (getD ss j (segmentOf v []))
   unfolding rowAt
   row-at j h =
       let c = promise .columns-are in
@@ -95,27 +96,27 @@ module _ {level : ℤ} {ls : Lists} {old new : Columns} {n : ℕ} (promise : Seg
   unfolding linesFrom segmentLines
   lines-so-far zero h = refl
   lines-so-far (suc k) h =
-      let s = getD ss k (segmentOf level []) in
-      let line : segmentFrom (rowAt new k) ≡ s = ap segmentFrom (row-at k (omega arith)) ∙ segments-back level rs (ordered promise) k in
+      let s = getD ss k (segmentOf v []) in
+      let line : segmentFrom (rowAt new k) ≡ s = ap segmentFrom (row-at k (omega arith)) ∙ segments-back v rs (ordered promise) k in
       let long : 1 + length (take k ss) ≡ suc k = omega (arith, length-take-le k ss (omega (arith, count-is promise, h))) in
       ap₂ (λ front t. front ++ segmentLine (suc k) t) (lines-so-far k (omega arith)) line
       ∙ ap (λ m. segmentLines 1 (take k ss) ++ segmentLine m s) (sym long)
       ∙ sym (lines-snoc 1 (take k ss) s)
-      ∙ ap (segmentLines 1) (sym (take-suc ss k (segmentOf level []) (omega (arith, count-is promise))))
+      ∙ ap (segmentLines 1) (sym (take-suc ss k (segmentOf v []) (omega (arith, count-is promise))))
 
   pub lines-given : linesFrom new n ≡ segmentLines 1 ss
   lines-given = lines-so-far n (omega arith) ∙ ap (segmentLines 1) (take-all n ss (omega (arith, count-is promise)))
 
-  pub text-accepted : (address : ℕ) → lengths old ≡ replicate 11 segmentRoom → listsText address level ls ≡ traceLine address level (length (ls .times)) n ++ linesFrom new n
+  pub text-accepted : (address : ℕ) → lengths old ≡ replicate 11 segmentRoom → listsText address (v .level) ls ≡ traceLine address (v .level) (length (ls .times)) n ++ linesFrom new n
   unfolding listsText answerText
   text-accepted address room =
-      ap (λ r. answerText address level (length (ls .times)) (segmentCall r level ls)) (sym room)
-      ∙ ap (answerText address level (length (ls .times))) (called promise)
-      ∙ ap₂ (λ m l. traceLine address level (length (ls .times)) m ++ l) (sym (count-is promise)) (sym lines-given)
+      ap (λ r. answerText address (v .level) (length (ls .times)) (segmentCall r v ls)) (sym room)
+      ∙ ap (answerText address (v .level) (length (ls .times))) (called promise)
+      ∙ ap₂ (λ m l. traceLine address (v .level) (length (ls .times)) m ++ l) (sym (count-is promise)) (sym lines-given)
 
-pub text-refused : {level : ℤ} {ls : Lists} {old new : Columns} {e : ℕ} → SegmentPromise level ls old new (Refused e) → (address : ℕ) → lengths old ≡ replicate 11 segmentRoom
-    → listsText address level ls ≡ refusedLine e
+pub text-refused : {v : Service} {ls : Lists} {old new : Columns} {e : ℕ} → SegmentPromise v ls old new (Refused e) → (address : ℕ) → lengths old ≡ replicate 11 segmentRoom
+    → listsText address (v .level) ls ≡ refusedLine e
 unfolding listsText answerText segmentMeaning
-text-refused {level} {ls} {old} {new} {e} promise address room =
-    let refuses = bind-refused (segmentCall (lengths old) level ls) length e (sym (promise .answer-is)) in
-    ap (λ r. answerText address level (length (ls .times)) (segmentCall r level ls)) (sym room) ∙ ap (answerText address level (length (ls .times))) refuses
+text-refused {v} {ls} {old} {new} {e} promise address room =
+    let refuses = bind-refused (segmentCall (lengths old) v ls) length e (sym (promise .answer-is)) in
+    ap (λ r. answerText address (v .level) (length (ls .times)) (segmentCall r v ls)) (sym room) ∙ ap (answerText address (v .level) (length (ls .times))) refuses

@@ -26,10 +26,10 @@ use mathlib.Core.Bool.{true, false}
 use mathlib.Core.List.{List, [], _∷_, _++_, flatten, reverse}
 use Prim.Native.Nat.{ℕ, suc, _+_, _-_, _*_, _≤_, _<_}
 use native.Mathlib.Omega.{arith}
-use lib.IntN.{ℤ}
 use lib.ListN.{length, getD, take, drop, take-append-drop, List·getD-map}
 use lib.Seq.{take-suc, length-take-le}
 use Rattle.integers.specs.Lists.{In, filter}
+use Rattle.definitions.specs.Services.{Service}
 use Rattle.definitions.specs.Spans.{mostRanges, segmentRoom}
 use Rattle.definitions.specs.Ranges.{Range}
 use Rattle.definitions.specs.Lines.{hasLine}
@@ -56,34 +56,34 @@ pub record TimesOf (run : List Range) (given : Segment) : Type 0 where
   pub ends : run ≡ before-last ++ (last ∷ [])
   pub last-time : given .lastTime ≡ last .time
 
-pub segment-first-time : (level : ℤ) (run : List Range) → segmentOf level run .firstTime ≡ firstTimeOf run
+pub segment-first-time : (v : Service) (run : List Range) → segmentOf v run .firstTime ≡ firstTimeOf run
 unfolding segmentOf firstTimeOf
-segment-first-time level [] = refl
-segment-first-time level (r ∷ rs) = refl
+segment-first-time v [] = refl
+segment-first-time v (r ∷ rs) = refl
 
-pub segment-last-time : (level : ℤ) (run : List Range) → segmentOf level run .lastTime ≡ lastTimeOf run
+pub segment-last-time : (v : Service) (run : List Range) → segmentOf v run .lastTime ≡ lastTimeOf run
 unfolding segmentOf lastTimeOf
-segment-last-time level [] = refl
-segment-last-time level (r ∷ rs) = refl
+segment-last-time v [] = refl
+segment-last-time v (r ∷ rs) = refl
 
-segment-times : (level : ℤ) (r : Range) (rs : List Range) → TimesOf (r ∷ rs) (segmentOf level (r ∷ rs))
+segment-times : (v : Service) (r : Range) (rs : List Range) → TimesOf (r ∷ rs) (segmentOf v (r ∷ rs))
 unfolding firstTimeOf
-segment-times level r rs =
+segment-times v r rs =
     let l = last-range r rs in
     record {
       first = r;
       after-first = rs;
       begins = refl;
-      first-time = segment-first-time level (r ∷ rs);
+      first-time = segment-first-time v (r ∷ rs);
       before-last = l .before;
       last = l .range;
       ends = l .splits;
-      last-time = segment-last-time level (r ∷ rs) ∙ l .time-is;
+      last-time = segment-last-time v (r ∷ rs) ∙ l .time-is;
     }
 
-pub segmentsOf-at : (level : ℤ) (rs : List Range) (j : ℕ) → getD (segmentsOf level rs) j (segmentOf level []) ≡ segmentOf level (getD (segments rs) j [])
+pub segmentsOf-at : (v : Service) (rs : List Range) (j : ℕ) → getD (segmentsOf v rs) j (segmentOf v []) ≡ segmentOf v (getD (segments rs) j [])
 unfolding segmentsOf
-segmentsOf-at level rs j = List·getD-map (segmentOf level) (segments rs) j []
+segmentsOf-at v rs j = List·getD-map (segmentOf v) (segments rs) j []
 
 -- ---- the segment then running
 
@@ -138,12 +138,12 @@ module _ (decides : Decides Ordered HasLine hasLine) where
   unfolding segments
   segments-split rs o = cut-split decides rs o
 
-  pub segments-times : (level : ℤ) (rs : List Range) → Ordered rs → (j : ℕ) → j < length (segments rs) → TimesOf (getD (segments rs) j []) (getD (segmentsOf level rs) j (segmentOf level []))
-  segments-times level rs o j h = subst (TimesOf (getD (segments rs) j [])) (sym (segmentsOf-at level rs j)) (by (getD (segments rs) j []) (split-run-good (segments-split rs o) j h))
+  pub segments-times : (v : Service) (rs : List Range) → Ordered rs → (j : ℕ) → j < length (segments rs) → TimesOf (getD (segments rs) j []) (getD (segmentsOf v rs) j (segmentOf v []))
+  segments-times v rs o j h = subst (TimesOf (getD (segments rs) j [])) (sym (segmentsOf-at v rs j)) (by (getD (segments rs) j []) (split-run-good (segments-split rs o) j h))
     where
-      by : (run : List Range) → GoodRun HasLine run → TimesOf run (segmentOf level run)
+      by : (run : List Range) → GoodRun HasLine run → TimesOf run (segmentOf v run)
       by [] g = absurd g
-      by (r ∷ run) g = segment-times level r run
+      by (r ∷ run) g = segment-times v r run
 
   pub segments-ranges : (rs : List Range) → Ordered rs → (j : ℕ) → j < length (segments rs)
       → filter (inSpan (firstTimeOf (getD (segments rs) j [])) (lastTimeOf (getD (segments rs) j []))) rs ≡ getD (segments rs) j []

@@ -1,13 +1,15 @@
 -- What the code's values stand for among document 01's terms: the definition of each case of an enum.
 --
---     lineOf, sideOf, timeOf, outlookOf, segmentOf     of a line, a side, a time, an outlook and a segment; a name of document 01 that the code has too ends in 01 here
+--     lineOf, serviceOf, sideOf, timeOf, outlookOf, segmentOf     of a line, a service, a side, a time, an outlook and a segment; a name of document 01 that the code has too ends in 01 here
 --
 -- Assumes nothing.
 use Rattle.definitions.specs.Times.{none, at, Time as Time01}
+use Rattle.definitions.specs.Services.{Service as Service01}
 use Rattle.definitions.specs.Lines.{below, on, above, Line as Line01, Side as Side01}
 use Rattle.definitions.specs.Outlook.{open-strip, lines, Outlook as Outlook01}
 use Rattle.definitions.specs.Results.{Segment as Segment01}
 use Rattle.values.specs.declared.Line.{Line}
+use Rattle.values.specs.declared.Service.{Service}
 use Rattle.values.specs.declared.Side.{Side}
 use Rattle.values.specs.declared.Side.the-variants.{Below, On, Above}
 use Rattle.values.specs.declared.Time.{Time}
@@ -18,6 +20,9 @@ use Rattle.values.specs.declared.Segment.{Segment}
 
 abbrev pub lineOf : Line → Line01
 lineOf l = record { p = l .p; q = l .q; d = l .d }
+
+abbrev pub serviceOf : Service → Service01
+serviceOf v = record { level = v .level }
 
 unfoldable pub sideOf : Side → Side01
 sideOf Below = below

@@ -7,6 +7,7 @@
 use Prim.Native.Nat.{ℕ}
 use lib.IntN.{ℤ, _*ℤ_}
 use lib.Signed.{_<ℤ_}
+use Rattle.definitions.specs.Services.{Service}
 use Rattle.definitions.specs.Lines.{Line, reading}
 use Rattle.definitions.specs.Outlook.{Outlook, lines}
 use Rattle.lines.specs.OutlookTimes.{reachTime}
@@ -14,5 +15,5 @@ use Rattle.lines.specs.OutlookTimes.{reachTime}
 abbrev pub BelowAt : Line → ℤ → ℕ → Type 0
 BelowAt l level t = reading l t <ℤ (l .d *ℤ level)
 
-abbrev pub lookAhead : Line → Line → ℤ → ℕ → Outlook
-lookAhead slow fast level last = lines slow fast (reachTime level last fast) (reachTime level last slow)
+abbrev pub lookAhead : Line → Line → Service → ℕ → Outlook
+lookAhead slow fast v last = lines slow fast (reachTime v last fast) (reachTime v last slow)

@@ -20,6 +20,7 @@ use Rattle.integers.specs.Least.{IsLeast, least-at, least-unique}
 use Rattle.integers.specs.Crossing.{Reaches, crossing, crossing-after, reach-after, reach-too-late, reach-never, firstReach-is}
 use Rattle.definitions.specs.Spans.{mostTime}
 use Rattle.definitions.specs.Times.{Time, none, at}
+use Rattle.definitions.specs.Services.{Service}
 use Rattle.definitions.specs.Lines.{Line, reading}
 use Rattle.definitions.specs.Outlook.{lines}
 use Rattle.lines.specs.OutlookTimes.{reachTime}
@@ -28,39 +29,39 @@ use Rattle.values.specs.Reach.{BelowAt, lookAhead}
 abbrev pub crossingOf : Line → ℤ → ℤ
 crossingOf l level = ceilDiv (l .d *ℤ level -ℤ l .q) (l .p)
 
-module _ (l : Line) (level : ℤ) (from : ℕ) (in-time : from ≤ mostTime) where
-  reach-is : {r : Time} → IsLeast (Reaches (l .p) (l .q) (l .d *ℤ level)) from mostTime r → reachTime level from l ≡ r
-  reach-is h = least-unique (firstReach-is (l .p) (l .q) (l .d *ℤ level) from mostTime in-time) h
+module _ (l : Line) (v : Service) (from : ℕ) (in-time : from ≤ mostTime) where
+  reach-is : {r : Time} → IsLeast (Reaches (l .p) (l .q) (l .d *ℤ v .level)) from mostTime r → reachTime v from l ≡ r
+  reach-is h = least-unique (firstReach-is (l .p) (l .q) (l .d *ℤ v .level) from mostTime in-time) h
 
-  pub reach-now : (l .d *ℤ level) ≤ℤ reading l from → reachTime level from l ≡ at from
+  pub reach-now : (l .d *ℤ v .level) ≤ℤ reading l from → reachTime v from l ≡ at from
   unfolding reading
   reach-now reached = reach-is (least-at from (NatL.le-refl from) in-time reached (λ s a b. absurd (omega arith)))
 
-  module _ (under : BelowAt l level from) where
-    pub reach-falling : (l .p) ≤ℤ pos 0 → reachTime level from l ≡ none
+  module _ (under : BelowAt l (v .level) from) where
+    pub reach-falling : (l .p) ≤ℤ pos 0 → reachTime v from l ≡ none
     unfolding reading
-    reach-falling falls = reach-is (reach-never (l .p) (l .q) (l .d *ℤ level) from mostTime falls under)
+    reach-falling falls = reach-is (reach-never (l .p) (l .q) (l .d *ℤ v .level) from mostTime falls under)
 
     module _ (rises : pos 0 <ℤ (l .p)) where
-      is-crossing : crossingOf l level ≡ pos (crossing (l .p) (l .q) (l .d *ℤ level))
+      is-crossing : crossingOf l (v .level) ≡ pos (crossing (l .p) (l .q) (l .d *ℤ v .level))
       unfolding reading
-      is-crossing = crossing-after (l .p) (l .q) (l .d *ℤ level) from mostTime rises under .0
+      is-crossing = crossing-after (l .p) (l .q) (l .d *ℤ v .level) from mostTime rises under .0
 
-      pub crossing-nonneg : pos 0 ≤ℤ crossingOf l level
+      pub crossing-nonneg : pos 0 ≤ℤ crossingOf l (v .level)
       crossing-nonneg = rw is-crossing (omega ints)
 
-      pub reach-rising : crossingOf l level ≤ℤ pos mostTime → reachTime level from l ≡ at (natAbs (crossingOf l level))
+      pub reach-rising : crossingOf l (v .level) ≤ℤ pos mostTime → reachTime v from l ≡ at (natAbs (crossingOf l (v .level)))
       unfolding reading
       reach-rising early =
-          let early-c : crossing (l .p) (l .q) (l .d *ℤ level) ≤ mostTime = omega (ints, is-crossing) in
-          reach-is (reach-after (l .p) (l .q) (l .d *ℤ level) from mostTime rises under early-c)
+          let early-c : crossing (l .p) (l .q) (l .d *ℤ v .level) ≤ mostTime = omega (ints, is-crossing) in
+          reach-is (reach-after (l .p) (l .q) (l .d *ℤ v .level) from mostTime rises under early-c)
           ∙ ap (λ z. at (natAbs z)) (sym is-crossing)
 
-      pub reach-late : pos mostTime <ℤ crossingOf l level → reachTime level from l ≡ none
+      pub reach-late : pos mostTime <ℤ crossingOf l (v .level) → reachTime v from l ≡ none
       unfolding reading
       reach-late late =
-          let late-c : mostTime < crossing (l .p) (l .q) (l .d *ℤ level) = omega (ints, is-crossing) in
-          reach-is (reach-too-late (l .p) (l .q) (l .d *ℤ level) from mostTime rises late-c)
+          let late-c : mostTime < crossing (l .p) (l .q) (l .d *ℤ v .level) = omega (ints, is-crossing) in
+          reach-is (reach-too-late (l .p) (l .q) (l .d *ℤ v .level) from mostTime rises late-c)
 
-pub look-by : {k l k′ l′ : Line} {level z : ℤ} (last : ℕ) {some all : Time} → k ≡ k′ → l ≡ l′ → z ≡ level → some ≡ reachTime z last l → all ≡ reachTime z last k → lines k l some all ≡ lookAhead k′ l′ level last
-look-by {k} {l} {z} last slow fast same some all = ap₂ (λ s a. lines k l s a) some all ∙ λ i. lookAhead (slow i) (fast i) (same i) last
+pub look-by : {k l k′ l′ : Line} (v : Service) (last : ℕ) {some all : Time} → k ≡ k′ → l ≡ l′ → some ≡ reachTime v last l → all ≡ reachTime v last k → lines k l some all ≡ lookAhead k′ l′ v last
+look-by {k} {l} v last slow fast some all = ap₂ (λ s a. lines k l s a) some all ∙ λ i. lookAhead (slow i) (fast i) v last

@@ -11,6 +11,11 @@ pub struct Line {
     pub d: i64,
 }
 
+// What an outlook looks for.
+pub struct Service {
+    pub level: i32,
+}
+
 // Where a line is against a level at a time.
 pub enum Side {
     Below,

@@ -5,11 +5,12 @@ ghost use Rattle.definitions.specs.Spans.{mostValue};
 ghost use Rattle.definitions.specs.Lines.{sideAt};
 ghost use Rattle.definitions.specs.Corners.{reduced as reducedOf};
 ghost use Rattle.lines.specs.OutlookTimes.{reachTime};
-ghost use Rattle.values.specs.Meanings.{lineOf, sideOf, timeOf, outlookOf};
+ghost use Rattle.values.specs.Meanings.{lineOf, serviceOf, sideOf, timeOf, outlookOf};
 ghost use Rattle.values.specs.Small.{Small};
 ghost use Rattle.values.specs.Reach.{lookAhead, BelowAt};
 use crate::Line;
 use crate::Outlook;
+use crate::Service;
 use crate::Side;
 use crate::Time;
 use crate::lowest_terms::reduced;
@@ -36,13 +37,13 @@ impl Line {
 }
 
 // When a line that is below the level at `from` reaches it: at (d·level − q)/p rounded up, if the line rises and that is a time at all.
-fn crossing_time(l: Line, level: i32, from: u32) -> Time
-    requires { ⌜ (Small l) × (Within mostValue level) × (BelowAt (lineOf l) level from) ⌝ }
-    ensures { λ r. ⌜ timeOf r ≡ reachTime level from (lineOf l) ⌝ }
+fn crossing_time(l: Line, v: Service, from: u32) -> Time
+    requires { ⌜ (Small l) × (Within mostValue (v .level)) × (BelowAt (lineOf l) (v .level) from) ⌝ }
+    ensures { λ r. ⌜ timeOf r ≡ reachTime (serviceOf v) from (lineOf l) ⌝ }
 {
     let p = l.p;
     if 0 < p {
-        let t = ceil_div(l.d * (level as i64) - l.q, p);
+        let t = ceil_div(l.d * (v.level as i64) - l.q, p);
         if t <= MOST_TIME {
             Time::At(t as u32)
         } else {
@@ -54,26 +55,26 @@ fn crossing_time(l: Line, level: i32, from: u32) -> Time
 }
 
 // The first time from `from` on at which the line is at or above the level.
-fn reach_time(l: Line, level: i32, from: u32) -> Time
-    requires { ⌜ (Small l) × (Within mostValue level) ⌝ }
-    ensures { λ r. ⌜ timeOf r ≡ reachTime level from (lineOf l) ⌝ }
+fn reach_time(l: Line, v: Service, from: u32) -> Time
+    requires { ⌜ (Small l) × (Within mostValue (v .level)) ⌝ }
+    ensures { λ r. ⌜ timeOf r ≡ reachTime (serviceOf v) from (lineOf l) ⌝ }
 {
-    let s = l.side(level, from);
+    let s = l.side(v.level, from);
     match s {
-        Side::Below => crossing_time(l, level, from),
+        Side::Below => crossing_time(l, v, from),
         Side::On | Side::Above => Time::At(from),
     }
 }
 
 // Some line of the fit reaches the level when the fast one does, and all when the slow one does.
-pub fn outlook_of(slow: Line, fast: Line, level: i32, last: u32) -> Outlook
-    requires { ⌜ (Small slow) × (Small fast) × (Within mostValue level) ⌝ }
-    ensures { λ r. ⌜ outlookOf r ≡ lookAhead (reducedOf (lineOf slow)) (reducedOf (lineOf fast)) level last ⌝ }
+pub fn outlook_of(slow: Line, fast: Line, v: Service, last: u32) -> Outlook
+    requires { ⌜ (Small slow) × (Small fast) × (Within mostValue (v .level)) ⌝ }
+    ensures { λ r. ⌜ outlookOf r ≡ lookAhead (reducedOf (lineOf slow)) (reducedOf (lineOf fast)) (serviceOf v) last ⌝ }
 {
     let s = reduced(slow);
     let f = reduced(fast);
-    let some = reach_time(f, level, last);
-    let all = reach_time(s, level, last);
+    let some = reach_time(f, v, last);
+    let all = reach_time(s, v, last);
     Outlook::Lines {
         slow: s,
         fast: f,

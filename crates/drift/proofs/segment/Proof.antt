@@ -9,6 +9,7 @@ use lib.ListN.{length, length-map}
 use mir.Syntax.{w32}
 use mir.Val.{toZ, ofZ}
 use mir.Facts.{toZ-ofZ}
+use Rattle.definitions.specs.Services.{Service}
 use Rattle.definitions.specs.Spans.{segmentRoom}
 use Rattle.definitions.specs.Ranges.{Lists, rangesOf}
 use Rattle.definitions.specs.Results.{segmentOf, segmentsOf}
@@ -28,6 +29,9 @@ use Rattle.drift.proofs.segment.Statement.{statement}
 use Rattle.drift.proofs.segment.Tie as tie
 
 -- ---- at entry
+
+abbrev service : tie.Start → Service
+service c = record { level = c .args .level }
 
 abbrev level : tie.Start → ℤ
 level c = c .args .level
@@ -54,16 +58,16 @@ try-lists-requires c κs = tt
 -- ---- where the trial has answered
 
 -- at most 2,048 segments
-few : (level : ℤ) (ls : Lists) → AcceptedLists ls → length (segmentsOf level (rangesOf ls)) ≤ segmentRoom
+few : (v : Service) (ls : Lists) → AcceptedLists ls → length (segmentsOf v (rangesOf ls)) ≤ segmentRoom
 unfolding segmentsOf
-few level ls a =
+few v ls a =
     let long = ranges-length ls (a .same) in
     let most = a .few in
-    omega (arith, length-map (segments (rangesOf ls)) (segmentOf level), segments-room (rangesOf ls) (a .ranges .ordered) (omega arith))
+    omega (arith, length-map (segments (rangesOf ls)) (segmentOf v), segments-room (rangesOf ls) (a .ranges .ordered) (omega arith))
 
 -- the trial's rows are the call's
-tried : (ns : List ℕ) (level level′ : ℤ) (ls : Lists) {short out : Bool} → short ≡ tooShort segmentRoom ns → out ≡ outside level′ → level′ ≡ level → firstRow (segmentRows ns level ls) ≡ firstRow (trialRows short out ls)
-tried ns level level′ ls e f g = segment-trial ns level ls ∙ ap₂ (λ short out. firstRow (trialRows short out ls)) (sym e) (sym (f ∙ ap outside g))
+tried : (ns : List ℕ) (v : Service) (level′ : ℤ) (ls : Lists) {short out : Bool} → short ≡ tooShort segmentRoom ns → out ≡ outside level′ → level′ ≡ v .level → firstRow (segmentRows ns v ls) ≡ firstRow (trialRows short out ls)
+tried ns v level′ ls e f g = segment-trial ns v ls ∙ ap₂ (λ short out. firstRow (trialRows short out ls)) (sym e) (sym (f ∙ ap outside g))
 
 module _ (c : tie.After-try-lists) where
   abbrev entry : tie.Start
@@ -78,31 +82,31 @@ module _ (c : tie.After-try-lists) where
   number-is : refusal (firstRow rows) ≡ number
   number-is = sym (c .try-lists .ensures)
 
-  rows-are : firstRow (segmentRows (lengths (old entry)) (level entry) (lists entry)) ≡ firstRow rows
-  rows-are = tried (lengths (old entry)) (level entry) (toZ w32 (ofZ w32 (level entry))) (lists entry) (c .before .before .too-short .ensures) (c .before .value-outside .ensures) (level-read entry)
+  rows-are : firstRow (segmentRows (lengths (old entry)) (service entry) (lists entry)) ≡ firstRow rows
+  rows-are = tried (lengths (old entry)) (service entry) (toZ w32 (ofZ w32 (level entry))) (lists entry) (c .before .before .too-short .ensures) (c .before .value-outside .ensures) (level-read entry)
 
-  one-holds : 0 < number → firstRow (segmentRows (lengths (old entry)) (level entry) (lists entry)) ≡ refused number
+  one-holds : 0 < number → firstRow (segmentRows (lengths (old entry)) (service entry) (lists entry)) ≡ refused number
   one-holds h = rows-are ∙ refusal-above (firstRow rows) number number-is h
 
-  none-holds : number ≡ 0 → firstRow (segmentRows (lengths (old entry)) (level entry) (lists entry)) ≡ accepted tt
+  none-holds : number ≡ 0 → firstRow (segmentRows (lengths (old entry)) (service entry) (lists entry)) ≡ accepted tt
   none-holds e = rows-are ∙ refusal-zero rows (trial-numbered _ _ (lists entry)) .0 (number-is ∙ e)
 
-  ready : number ≡ 0 → FillReady (level entry) (lists entry) (old entry)
+  ready : number ≡ 0 → FillReady (service entry) (lists entry) (old entry)
   ready e =
       let (roomy, inside, lists-accepted) = trial-zero _ _ (lists entry) .0 (number-is ∙ e) in
       record {
         tried = record { level-inside = ap outside (sym (level-read entry)) ∙ sym (c .before .value-outside .ensures) ∙ inside; lists-accepted = lists-accepted };
-        room = room-less (few (level entry) (lists entry) lists-accepted) (room-tested (old entry) (sym (c .before .before .too-short .ensures) ∙ roomy));
+        room = room-less (few (service entry) (lists entry) lists-accepted) (room-tested (old entry) (sym (c .before .before .too-short .ensures) ∙ roomy));
       }
 
 returns : tie.Need-returns
-returns c = let s = entry (c .before) in promise-refused (level s) (lists s) (old s) (number (c .before)) (one-holds (c .before) (omega (arith, c .if1 .taken)))
+returns c = let s = entry (c .before) in promise-refused (service s) (lists s) (old s) (number (c .before)) (one-holds (c .before) (omega (arith, c .if1 .taken)))
 
 fill-requires : tie.Need-fill-requires
 fill-requires c κs =
     let t = c .before .before .before .before .before .before .before .before .before .before .before .before in
     let s = entry t in
-    subst (λ l. FillReady l (lists s) (old s)) (sym (level-read s)) (ready t (c .before .before .before .before .before .before .before .before .before .before .before .if1 .left))
+    subst (λ l. FillReady (record { level = l }) (lists s) (old s)) (sym (level-read s)) (ready t (c .before .before .before .before .before .before .before .before .before .before .before .if1 .left))
 
 -- ---- where the slices are filled
 
@@ -150,8 +154,8 @@ returns-2 c =
     let s = entry t in
     let filling = f .fill in
     let new = columns (filling .last .1 .1 .1 .1 .0) (filling .last .1 .1 .1 .1 .1 .0) (filling .last .1 .1 .1 .1 .1 .1 .0) (filling .last .1 .1 .1 .1 .1 .1 .1 .0) (filling .last .1 .1 .1 .1 .1 .1 .1 .1 .0) (filling .last .1 .1 .1 .1 .1 .1 .1 .1 .1 .0) (filling .last .1 .1 .1 .1 .1 .1 .1 .1 .1 .1 .0) (filling .last .1 .1 .1 .1 .1 .1 .1 .1 .1 .1 .1 .0) (filling .last .1 .1 .1 .1 .1 .1 .1 .1 .1 .1 .1 .1 .0) (filling .last .1 .1 .1 .1 .1 .1 .1 .1 .1 .1 .1 .1 .1 .0) (filling .last .1 .1 .1 .1 .1 .1 .1 .1 .1 .1 .1 .1 .1 .1 .0) in
-    promise-accepted (level s) (lists s) (filling .result) (none-holds t (f .before .before .before .before .before .before .before .before .before .before .before .before .if1 .left))
-    (subst (λ l. AllStored (filling .result) (segmentsOf l (rangesOf (lists s))) (old s) new) (level-read s) (filling .ensures))
+    promise-accepted (service s) (lists s) (filling .result) (none-holds t (f .before .before .before .before .before .before .before .before .before .before .before .before .if1 .left))
+    (subst (λ l. AllStored (filling .result) (segmentsOf (record { level = l }) (rangesOf (lists s))) (old s) new) (level-read s) (filling .ensures))
 
 pub segment-spec : {M : Type 1} → statement M
 segment-spec =

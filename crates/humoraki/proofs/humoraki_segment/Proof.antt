@@ -27,7 +27,7 @@ returns c =
     let old : Columns = columns (args .first-times .now) (args .last-times .now) (args .counts .now) (args .slow-ps .now) (args .slow-qs .now) (args .slow-ds .now) (args .fast-ps .now) (args .fast-qs .now) (args .fast-ds .now) (args .somes .now) (args .alls .now) in
     let new : Columns = columns (call .last .1 .1 .1 .1 .0) (call .last .1 .1 .1 .1 .1 .0) (call .last .1 .1 .1 .1 .1 .1 .0) (call .last .1 .1 .1 .1 .1 .1 .1 .0) (call .last .1 .1 .1 .1 .1 .1 .1 .1 .0) (call .last .1 .1 .1 .1 .1 .1 .1 .1 .1 .0) (call .last .1 .1 .1 .1 .1 .1 .1 .1 .1 .1 .0) (call .last .1 .1 .1 .1 .1 .1 .1 .1 .1 .1 .1 .0) (call .last .1 .1 .1 .1 .1 .1 .1 .1 .1 .1 .1 .1 .0) (call .last .1 .1 .1 .1 .1 .1 .1 .1 .1 .1 .1 .1 .1 .0) (call .last .1 .1 .1 .1 .1 .1 .1 .1 .1 .1 .1 .1 .1 .1 .0) in
     after-segment (args .level) lists (record { columns = old; count = args .count .now }) (record { columns = new; count = c .of-segment .result .count })
-    (subst (λ level. SegmentPromise level lists old new (call .result)) (toZ-ofZ (s .fits .level)) (call .ensures))
+    (subst (λ level. SegmentPromise (record { level = level }) lists old new (call .result)) (toZ-ofZ (s .fits .level)) (call .ensures))
     (c .of-segment .ensures)
 
 same-length : tie.Need-same-length

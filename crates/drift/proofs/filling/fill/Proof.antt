@@ -1,21 +1,20 @@
 -- `drift::filling::fill` meets its contract. The invariant is `Turn`: the first `count` segments are stored, and the ranges from `start` on hold those
 -- that are left. What shrinks is the number of ranges from `start` on. Assumes nothing.
 use Prim.Native.Nat.{_-_, _+_, _*_, suc}
-use mathlib.Core.Path.{_≡_, refl, sym, ap, _∙_, subst}
+use mathlib.Core.Path.{_≡_, refl, sym, ap, _∙_}
 use mathlib.Core.List.{List, _∷_}
 use native.Mathlib.Omega.{arith}
 use borrow.Author.Needs.{scaled-fits}
-use lib.IntN.{ℤ}
 use lib.ListN.{length, drop, drop-of-length-le}
-use mir.Syntax.{w32, w64}
-use mir.Val.{Fits, toZ, ofZ}
-use mir.Facts.{toZ-ofZ}
+use mir.Syntax.{w64}
+use mir.Val.{Fits}
+use Rattle.definitions.specs.Services.{Service}
 use Rattle.definitions.specs.Spans.{mostRanges}
 use Rattle.definitions.specs.Ranges.{Lists, rangesOf}
 use Rattle.definitions.specs.Splits.{cut}
 use Rattle.definitions.specs.Segments.{segments}
 use Rattle.definitions.specs.Results.{Segment, segmentsOf}
-use Rattle.values.specs.Meanings.{segmentOf}
+use Rattle.values.specs.Meanings.{serviceOf, segmentOf}
 use Rattle.drift.specs.Columns.{Columns, columns, Room, SameLengths, FirstStored, AllStored}
 use Rattle.drift.specs.ColumnLaws.{first-none, first-lengths, first-room, first-next, rest-left, first-all}
 use Rattle.drift.specs.Filling.{FillReady, Turn, ranges-long}
@@ -23,32 +22,29 @@ use Rattle.drift.proofs.filling.fill.Statement.{statement}
 use Rattle.drift.proofs.filling.fill.Tie as tie
 
 abbrev Inv-loop : tie.InvT-loop
-Inv-loop level times lows highs first-times₀ last-times₀ counts₀ slow-ps₀ slow-qs₀ slow-ds₀ fast-ps₀ fast-qs₀ fast-ds₀ somes₀ alls₀ up₀ down₀ start₀ count₀ first-times last-times counts slow-ps slow-qs slow-ds fast-ps fast-qs fast-ds somes alls up down start count =
-    Turn (toZ w32 level) (record { times = times; lows = lows; highs = highs }) (columns first-times₀ last-times₀ counts₀ slow-ps₀ slow-qs₀ slow-ds₀ fast-ps₀ fast-qs₀ fast-ds₀ somes₀ alls₀) (columns first-times last-times counts slow-ps slow-qs slow-ds fast-ps fast-qs fast-ds somes alls) start count × (length up ≡ mostRanges) × (length down ≡ mostRanges)
+Inv-loop v times lows highs first-times₀ last-times₀ counts₀ slow-ps₀ slow-qs₀ slow-ds₀ fast-ps₀ fast-qs₀ fast-ds₀ somes₀ alls₀ up₀ down₀ start₀ count₀ first-times last-times counts slow-ps slow-qs slow-ds fast-ps fast-qs fast-ds somes alls up down start count =
+    Turn (serviceOf v) (record { times = times; lows = lows; highs = highs }) (columns first-times₀ last-times₀ counts₀ slow-ps₀ slow-qs₀ slow-ds₀ fast-ps₀ fast-qs₀ fast-ds₀ somes₀ alls₀) (columns first-times last-times counts slow-ps slow-qs slow-ds fast-ps fast-qs fast-ds somes alls) start count × (length up ≡ mostRanges) × (length down ≡ mostRanges)
 
 abbrev μ-loop : tie.MeasureT-loop
-μ-loop level times lows highs first-times₀ last-times₀ counts₀ slow-ps₀ slow-qs₀ slow-ds₀ fast-ps₀ fast-qs₀ fast-ds₀ somes₀ alls₀ up₀ down₀ start₀ count₀ first-times last-times counts slow-ps slow-qs slow-ds fast-ps fast-qs fast-ds somes alls up down start count =
+μ-loop v times lows highs first-times₀ last-times₀ counts₀ slow-ps₀ slow-qs₀ slow-ds₀ fast-ps₀ fast-qs₀ fast-ds₀ somes₀ alls₀ up₀ down₀ start₀ count₀ first-times last-times counts slow-ps slow-qs slow-ds fast-ps fast-qs fast-ds somes alls up down start count =
     length times - start
 
--- ---- at entry; the level is passed on as bits
+-- ---- at entry
 
-abbrev level : tie.Start Inv-loop μ-loop → ℤ
-level c = toZ w32 (ofZ w32 (c .args .level))
+abbrev service : tie.Start Inv-loop μ-loop → Service
+service c = serviceOf (c .args .v)
 
 abbrev lists : tie.Start Inv-loop μ-loop → Lists
 lists c = record { times = c .args .times .now; lows = c .args .lows .now; highs = c .args .highs .now }
 
 abbrev all : tie.Start Inv-loop μ-loop → List Segment
-all c = segmentsOf (level c) (rangesOf (lists c))
+all c = segmentsOf (service c) (rangesOf (lists c))
 
 abbrev old : tie.Start Inv-loop μ-loop → Columns
 old c = columns (c .args .first-times .now) (c .args .last-times .now) (c .args .counts .now) (c .args .slow-ps .now) (c .args .slow-qs .now) (c .args .slow-ds .now) (c .args .fast-ps .now) (c .args .fast-qs .now) (c .args .fast-ds .now) (c .args .somes .now) (c .args .alls .now)
 
-level-read : (c : tie.Start Inv-loop μ-loop) → level c ≡ c .args .level
-level-read c = toZ-ofZ (c .fits .level)
-
-ready : (c : tie.Start Inv-loop μ-loop) → FillReady (level c) (lists c) (old c)
-ready c = subst (λ l. FillReady l (lists c) (old c)) (sym (level-read c)) (c .pre)
+ready : (c : tie.Start Inv-loop μ-loop) → FillReady (service c) (lists c) (old c)
+ready c = c .pre
 
 loop-holds : tie.Need-loop-holds Inv-loop μ-loop
 loop-holds c = let s = c .before .before .before .before .before .before in (record { within = omega arith; left = refl; stored = first-none (all s) (old s) }, refl, refl)
@@ -87,7 +83,7 @@ stored c = c .before .before .before .before .loop .inv .0 .stored
 room : (c : tie.After-segment-from Inv-loop μ-loop) → Room (length (all (entry c))) (old (entry c))
 room c = ready (entry c) .room
 
-next : (c : tie.After-segment-from Inv-loop μ-loop) → drop (c .before .before .before .before .loop .count) (all (entry c)) ≡ segmentOf (c .segment-from .result) ∷ segmentsOf (level (entry c)) (drop (c .before .before .before .before .loop .start + c .segment-from .result .count) (rangesOf (lists (entry c))))
+next : (c : tie.After-segment-from Inv-loop μ-loop) → drop (c .before .before .before .before .loop .count) (all (entry c)) ≡ segmentOf (c .segment-from .result) ∷ segmentsOf (service (entry c)) (drop (c .before .before .before .before .loop .start + c .segment-from .result .count) (rangesOf (lists (entry c))))
 unfolding segmentOf
 next c = c .before .before .before .before .loop .inv .0 .left ∙ c .segment-from .ensures .next
 
@@ -204,7 +200,7 @@ ended c =
     let ls = lists s in
     let long = ranges-long (ls .times) (ls .lows) (ls .highs) in
     let passed = drop-of-length-le (rangesOf ls) {i = c .before .loop .start} (omega (arith, c .loop-test .left)) in
-    first-all (c .before .loop .inv .0 .stored) (c .before .loop .inv .0 .left ∙ ap (segmentsOf (level s)) passed)
+    first-all (c .before .loop .inv .0 .stored) (c .before .loop .inv .0 .left ∙ ap (segmentsOf (service s)) passed)
 
 kept : (c : tie.After-loop Inv-loop μ-loop) → SameLengths (old (begun c)) (filled c)
 kept c = first-lengths (c .before .loop .inv .0 .stored) (ready (begun c) .room)
@@ -243,7 +239,7 @@ same-length-11 : tie.Need-same-length-11 Inv-loop μ-loop
 same-length-11 c = kept c .alls
 
 returns : tie.Need-returns Inv-loop μ-loop
-returns c = let s = begun c in subst (λ l. AllStored (c .before .loop .count) (segmentsOf l (rangesOf (lists s))) (old s) (filled c)) (level-read s) (ended c)
+returns c = ended c
 
 pub fill-spec : {M : Type 1} → statement M
 fill-spec =

@@ -1,21 +1,15 @@
 -- `drift::filling::segment_from` meets its contract: what `run_from` found is the next segment, with the outlook that `outlook_of` gives its two lines.
 -- Assumes nothing.
-use mathlib.Core.Path.{_≡_, sym, ap, _∙_, subst}
+use mathlib.Core.Path.{sym, subst}
 use Prim.Native.Nat.{_-_}
 use native.Mathlib.Nat.{le-refl}
 use native.Mathlib.Omega.{arith}
-use lib.ListN.{getD}
-use mir.Syntax.{w32}
-use mir.Val.{toZ, ofZ}
-use mir.Facts.{toZ-ofZ}
 use Rattle.integers.specs.Bounds.{Within}
 use Rattle.definitions.specs.Spans.{mostValue}
 use Rattle.definitions.specs.Ranges.{Lists}
-use Rattle.definitions.specs.Corners.{reduced}
 use Rattle.trial_laws.specs.Inside.{value-inside}
 use Rattle.trial_laws.specs.Accepted.{AcceptedLists}
-use Rattle.values.specs.Meanings.{lineOf, outlookOf, segmentOf}
-use Rattle.values.specs.Reach.{lookAhead}
+use Rattle.values.specs.Meanings.{serviceOf, outlookOf, segmentOf}
 use Rattle.drift.specs.Filling.{NextSegment}
 use Rattle.drift.specs.NextSegments.{foundAt, next-open, next-lines}
 use Rattle.drift.proofs.filling.segment_from.Statement.{statement}
@@ -68,19 +62,15 @@ lists s = record { times = s .args .times .now; lows = s .args .lows .now; highs
 lists-good : (s : tie.Start) → AcceptedLists (lists s)
 lists-good s = s .pre .tried .lists-accepted
 
--- the level is passed on as bits
-level-read : (s : tie.Start) → toZ w32 (ofZ w32 (s .args .level)) ≡ s .args .level
-level-read s = toZ-ofZ (s .fits .level)
-
-level-in : (s : tie.Start) → Within mostValue (toZ w32 (ofZ w32 (s .args .level)))
-level-in s = subst (Within mostValue) (sym (level-read s)) (value-inside (s .args .level) .0 (s .pre .tried .level-inside))
+level-in : (s : tie.Start) → Within mostValue (s .args .v .level)
+level-in s = value-inside (s .args .v .level) .0 (s .pre .tried .level-inside)
 
 returns : tie.Need-returns
 unfolding segmentOf outlookOf
 returns c =
     let r = c .before .before .before .before .before .before .before in
     let s = entry r in
-    next-open (lists-good s) (r .run-from .ensures) (s .args .level) (c .if1 .taken)
+    next-open (lists-good s) (r .run-from .ensures) (serviceOf (s .args .v)) (c .if1 .taken)
 
 outlook-of-requires : tie.Need-outlook-of-requires
 outlook-of-requires c κs =
@@ -104,9 +94,9 @@ returns-2 c =
     let e = r .run-from .result .end in
     let two = c .before .before .before .before .if1 .left in
     let known = c .before .before .before .before .before .shared-slice-known3 .given (e - 1) in
-    let look = c .outlook-of .ensures ∙ ap (λ l. lookAhead (reduced (lineOf (r .run-from .result .polygon .slow))) (reduced (lineOf (r .run-from .result .polygon .fast))) l (getD (ls .times) (e - 1) 0)) (level-read s) in
-    subst (λ o. NextSegment (s .args .level) ls (s .args .start) (foundAt ls (s .args .start) e o)) (sym look)
-    (next-lines (lists-good s) (r .run-from .ensures) (s .args .level) (omega arith) (omega arith))
+    let look = c .outlook-of .ensures in
+    subst (λ o. NextSegment (serviceOf (s .args .v)) ls (s .args .start) (foundAt ls (s .args .start) e o)) (sym look)
+    (next-lines (lists-good s) (r .run-from .ensures) (serviceOf (s .args .v)) (omega arith) (omega arith))
 
 pub segment-from-spec : {M : Type 1} → statement M
 segment-from-spec =

@@ -24,14 +24,14 @@ lists s = record { times = s .args .times .now; lows = s .args .lows .now; highs
 abbrev new : tie.After-segment → Columns
 new c = let l = c .segment .last in columns (l .1 .1 .1 .1 .0) (l .1 .1 .1 .1 .1 .0) (l .1 .1 .1 .1 .1 .1 .0) (l .1 .1 .1 .1 .1 .1 .1 .0) (l .1 .1 .1 .1 .1 .1 .1 .1 .0) (l .1 .1 .1 .1 .1 .1 .1 .1 .1 .0) (l .1 .1 .1 .1 .1 .1 .1 .1 .1 .1 .0) (l .1 .1 .1 .1 .1 .1 .1 .1 .1 .1 .1 .0) (l .1 .1 .1 .1 .1 .1 .1 .1 .1 .1 .1 .1 .0) (l .1 .1 .1 .1 .1 .1 .1 .1 .1 .1 .1 .1 .1 .0) (l .1 .1 .1 .1 .1 .1 .1 .1 .1 .1 .1 .1 .1 .1 .0)
 
-promise : (c : tie.After-segment) → let s = c .before .before .before .before .before .before .before .before .before .before .before .before .before .before in SegmentPromise (s .args .level) (lists s) zeroColumns (new c) (c .segment .result)
-promise c = let s = c .before .before .before .before .before .before .before .before .before .before .before .before .before .before in subst (λ z. SegmentPromise z (lists s) zeroColumns (new c) (c .segment .result)) (toZ-ofZ (s .fits .level)) (c .segment .ensures)
+promise : (c : tie.After-segment) → let s = c .before .before .before .before .before .before .before .before .before .before .before .before .before .before in SegmentPromise (record { level = s .args .level }) (lists s) zeroColumns (new c) (c .segment .result)
+promise c = let s = c .before .before .before .before .before .before .before .before .before .before .before .before .before .before in subst (λ z. SegmentPromise (record { level = z }) (lists s) zeroColumns (new c) (c .segment .result)) (toZ-ofZ (s .fits .level)) (c .segment .ensures)
 
-refuses : (c : tie.After-answer) → let segment = c .before .before .before .before .before .before .before .before .before .before .before .before .before in let s = segment .before .before .before .before .before .before .before .before .before .before .before .before .before .before in SegmentPromise (s .args .level) (lists s) zeroColumns (new segment) (Refused (c .answer .given .0 .0))
-refuses c = let segment = c .before .before .before .before .before .before .before .before .before .before .before .before .before in let s = segment .before .before .before .before .before .before .before .before .before .before .before .before .before .before in subst (SegmentPromise (s .args .level) (lists s) zeroColumns (new segment)) (c .answer .given .1) (promise segment)
+refuses : (c : tie.After-answer) → let segment = c .before .before .before .before .before .before .before .before .before .before .before .before .before in let s = segment .before .before .before .before .before .before .before .before .before .before .before .before .before .before in SegmentPromise (record { level = s .args .level }) (lists s) zeroColumns (new segment) (Refused (c .answer .given .0 .0))
+refuses c = let segment = c .before .before .before .before .before .before .before .before .before .before .before .before .before in let s = segment .before .before .before .before .before .before .before .before .before .before .before .before .before .before in subst (SegmentPromise (record { level = s .args .level }) (lists s) zeroColumns (new segment)) (c .answer .given .1) (promise segment)
 
-accepts : (c : tie.After-answer2) → let segment = c .before .before .before .before .before .before .before .before .before .before .before .before .before in let s = segment .before .before .before .before .before .before .before .before .before .before .before .before .before .before in SegmentPromise (s .args .level) (lists s) zeroColumns (new segment) (Accepted (c .answer2 .given .0 .0))
-accepts c = let segment = c .before .before .before .before .before .before .before .before .before .before .before .before .before in let s = segment .before .before .before .before .before .before .before .before .before .before .before .before .before .before in subst (SegmentPromise (s .args .level) (lists s) zeroColumns (new segment)) (c .answer2 .given .1) (promise segment)
+accepts : (c : tie.After-answer2) → let segment = c .before .before .before .before .before .before .before .before .before .before .before .before .before in let s = segment .before .before .before .before .before .before .before .before .before .before .before .before .before .before in SegmentPromise (record { level = s .args .level }) (lists s) zeroColumns (new segment) (Accepted (c .answer2 .given .0 .0))
+accepts c = let segment = c .before .before .before .before .before .before .before .before .before .before .before .before .before in let s = segment .before .before .before .before .before .before .before .before .before .before .before .before .before .before in subst (SegmentPromise (record { level = s .args .level }) (lists s) zeroColumns (new segment)) (c .answer2 .given .1) (promise segment)
 
 -- the heading, of the level itself
 heading-put : (c : tie.After-put-heading) → let s = c .before .before .before .before .before .before .before .before .before .before .before .before .before .before .before .before .before .before .before .before .before .before .before .before .before .before .before .before .before .before in Put 0 (traceLine (s .args .address) (s .args .level) (length (s .args .times .now)) (c .before .before .before .answer2 .given .0 .0)) (s .args .text .now) (c .put-heading .result) (c .put-heading .last .0)

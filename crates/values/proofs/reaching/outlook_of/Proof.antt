@@ -1,8 +1,6 @@
 -- `values::reaching::outlook_of` meets its contract, by those of what it calls. Assumes nothing.
-use mir.Syntax.{w32}
 use borrow.Author.Needs.{needs}
-use Rattle.values.specs.Meanings.{outlookOf}
-use Rattle.values.specs.Signed.{read-back}
+use Rattle.values.specs.Meanings.{serviceOf, outlookOf}
 use Rattle.values.specs.ReachLaws.{look-by}
 use Rattle.values.proofs.reaching.outlook_of.Statement.{statement}
 use Rattle.values.proofs.reaching.outlook_of.Tie as tie
@@ -23,7 +21,7 @@ returns : tie.Need-returns
 unfolding outlookOf
 returns c =
     let a = c .before .before in
-    look-by (a .before .before .args .last) (a .before .reduced .ensures .is) (a .reduced2 .ensures .is) (read-back w32 (a .before .before .pre .2) tt) (c .before .reach-time .ensures) (c .reach-time2 .ensures)
+    look-by (serviceOf (a .before .before .args .v)) (a .before .before .args .last) (a .before .reduced .ensures .is) (a .reduced2 .ensures .is) (c .before .reach-time .ensures) (c .reach-time2 .ensures)
 
 pub outlook-of-spec : {M : Type 1} → statement M
 outlook-of-spec = tie.close (tie.spec reduced-requires reduced-requires-2 reach-time-requires reach-time-requires-2 returns)

@@ -11,10 +11,9 @@ use borrow.Author.Needs.{needs}
 use Rattle.definitions.specs.Lines.{sideAt, notBelow}
 use Rattle.values.specs.declared.Side.{Side}
 use Rattle.values.specs.declared.Side.the-variants.{Below, On, Above}
-use Rattle.values.specs.Meanings.{lineOf, sideOf, timeOf}
+use Rattle.values.specs.Meanings.{lineOf, serviceOf, sideOf, timeOf}
 use Rattle.values.specs.Signed.{read-back}
 use Rattle.values.specs.Sides.{below-is, reached-is}
-use Rattle.lines.specs.OutlookTimes.{reachTime}
 use Rattle.values.specs.ReachLaws.{reach-now}
 use Rattle.values.proofs.reaching.reach_time.Statement.{statement}
 use Rattle.values.proofs.reaching.reach_time.Tie as tie
@@ -26,19 +25,17 @@ side-requires c κs = search needs
 enum-told : tie.Need-enum-told
 enum-told c = search needs
 
-tells : (c : tie.After-side) → sideOf (c .side .result) ≡ sideAt (lineOf (c .before .args .l)) (c .before .args .level) (c .before .args .from)
-tells c = c .side .ensures ∙ ap (λ z. sideAt (lineOf (c .before .args .l)) z (c .before .args .from)) (read-back w32 (c .before .pre .1) tt)
+tells : (c : tie.After-side) → sideOf (c .side .result) ≡ sideAt (lineOf (c .before .before .args .l)) (c .before .before .args .v .level) (c .before .before .args .from)
+tells c = c .side .ensures ∙ ap (λ z. sideAt (lineOf (c .before .before .args .l)) z (c .before .before .args .from)) (read-back w32 (c .before .before .pre .1) tt)
 
 crossing-time-requires : tie.Need-crossing-time-requires
 unfolding sideOf
 crossing-time-requires c κs =
-    let s = c .before .before .before in
-    rw (read-back w32 (s .pre .1) tt) (s .pre .0, s .pre .1, below-is (lineOf (s .args .l)) (s .args .level) (s .args .from) (sym (tells (c .before .before)) ∙ ap sideOf (c .enum-told .given .1)))
+    let s = c .before .before .before .before in
+    (s .pre .0, s .pre .1, below-is (lineOf (s .args .l)) (s .args .v .level) (s .args .from) (sym (tells (c .before .before)) ∙ ap sideOf (c .enum-told .given .1)))
 
 returns : tie.Need-returns
-returns c =
-    let s = c .before .before .before .before in
-    c .crossing-time .ensures ∙ ap (λ z. reachTime z (s .args .from) (lineOf (s .args .l))) (read-back w32 (s .pre .1) tt)
+returns c = c .crossing-time .ensures
 
 -- the second arm is that of the variants 1 and 2
 second-arm : (s : Side) → OneOf (1 ∷ 2 ∷ []) (tagOf the-type s) → T (notBelow (sideOf s))
@@ -51,9 +48,9 @@ second-arm Above k = tt
 returns-2 : tie.Need-returns-2
 unfolding timeOf
 returns-2 c =
-    let s = c .before .before in
-    sym (reach-now (lineOf (s .args .l)) (s .args .level) (s .args .from) (omega arith)
-    (reached-is (lineOf (s .args .l)) (s .args .level) (s .args .from) (subst (λ z. T (notBelow z)) (tells (c .before)) (second-arm (c .before .side .result) (c .match .keys2)))))
+    let s = c .before .before .before in
+    sym (reach-now (lineOf (s .args .l)) (serviceOf (s .args .v)) (s .args .from) (omega arith)
+    (reached-is (lineOf (s .args .l)) (s .args .v .level) (s .args .from) (subst (λ z. T (notBelow z)) (tells (c .before)) (second-arm (c .before .side .result) (c .match .keys2)))))
 
 pub reach-time-spec : {M : Type 1} → statement M
 reach-time-spec = tie.close (tie.spec side-requires enum-told crossing-time-requires returns returns-2)
