@@ -1,19 +1,18 @@
 // The corners of the fit into three lent slices, each in lowest terms: slow, the lines of the upper chain, fast, the lines of the lower chain.
 ghost use mathlib.Core.Bool.{false};
 ghost use mathlib.Core.List.{[], _∷_};
-ghost use Prim.Native.Nat.{_+_, _-_, _<_, _≤_};
-ghost use lib.ListN.{length};
+ghost use Prim.Native.Nat.{_+_, _-_};
 ghost use Rattle.definitions.specs.Corners.{reduced as reducedOf};
-ghost use Rattle.drift_laws.specs.EndReads.{Values};
-ghost use Rattle.drift_laws.specs.ChainParts.{ofChain};
+ghost use Rattle.drift_laws.specs.ChainParts.{chain, ofChain};
 ghost use Rattle.drift_laws.specs.ChainLines.{Rises};
 ghost use Rattle.drift_laws.specs.LineRows.{RowRoom, RowsSet};
 ghost use Rattle.values.specs.Meanings.{lineOf};
 ghost use Rattle.values.specs.Small.{Small};
-ghost use Rattle.fit.specs.Polygons.{Shape};
+ghost use Rattle.fit.specs.Polygons.{Held, Shape};
 ghost use Rattle.corner_list.specs.CornerRows.{ChainListed, ProperCorners, points, CornersListed};
-use fit::points::joining;
+use fit::ends::point_at;
 use fit::points::steeper;
+use fit::points::through;
 use fit::polygon::Polygon;
 use values::Line;
 use values::lowest_terms::reduced;
@@ -31,8 +30,7 @@ fn put(ps: &mut [i64], qs: &mut [i64], ds: &mut [i64], at: usize, l: Line)
 // The lines through neighbours of a chain, from the place at on, and the place after them.
 fn list_chain(
     times: &[u32],
-    ends: &[i32],
-    chain: &[u32],
+    values: &[i32],
     from: usize,
     to: usize,
     ps: &mut [i64],
@@ -40,13 +38,15 @@ fn list_chain(
     ds: &mut [i64],
     at: usize,
 ) -> usize
-    requires { ⌜ (Values (now times) (now ends)) × (from < to) × (to ≤ length (now chain)) × (Rises (ofChain false (now times) (now ends) (now chain)) from to) × (RowRoom (at + (to - from - 1)) (now ps) (now qs) (now ds)) ⌝ }
-    ensures { λ r. ⌜ ChainListed (ofChain false (now (times .entry)) (now (ends .entry)) (now (chain .entry))) from to (now (ps .entry)) (now (qs .entry)) (now (ds .entry)) at (now (ps .exit)) (now (qs .exit)) (now (ds .exit)) r ⌝ }
+    requires { ⌜ (Held (record { start = from; end = to }) (chain (now times) (now values))) × (Rises (ofChain false (chain (now times) (now values))) from to) × (RowRoom (at + (to - from - 1)) (now ps) (now qs) (now ds)) ⌝ }
+    ensures { λ r. ⌜ ChainListed (ofChain false (chain (now (times .entry)) (now (values .entry)))) from to (now (ps .entry)) (now (qs .entry)) (now (ds .entry)) at (now (ps .exit)) (now (qs .exit)) (now (ds .exit)) r ⌝ }
 {
     let mut j = from + 1;
     let mut n = at;
     while j < to {
-        let l = joining(times, ends, ends, false, chain[j - 1], chain[j]);
+        let a = point_at(times, values, false, j - 1);
+        let b = point_at(times, values, false, j);
+        let l = through(a, b);
         put(ps, qs, ds, n, l);
         n += 1;
         j += 1;
@@ -56,18 +56,17 @@ fn list_chain(
 
 // The corners in corner order, and their number.
 pub fn list_corners(
-    times: &[u32],
-    highs: &[i32],
-    lows: &[i32],
-    up: &[u32],
-    down: &[u32],
+    up_times: &[u32],
+    up_values: &[i32],
+    down_times: &[u32],
+    down_values: &[i32],
     x: Polygon,
     ps: &mut [i64],
     qs: &mut [i64],
     ds: &mut [i64],
 ) -> usize
-    requires { ⌜ (Values (now times) (now highs)) × (Values (now times) (now lows)) × (Shape x (length (now up)) (length (now down))) × (ProperCorners (now times) (now highs) (now lows) (now up) (now down) x) × (RowRoom (points x) (now ps) (now qs) (now ds)) ⌝ }
-    ensures { λ r. ⌜ CornersListed (now (times .entry)) (now (highs .entry)) (now (lows .entry)) (now (up .entry)) (now (down .entry)) x (now (ps .entry)) (now (qs .entry)) (now (ds .entry)) (now (ps .exit)) (now (qs .exit)) (now (ds .exit)) r ⌝ }
+    requires { ⌜ (Shape x (chain (now «up_times») (now «up_values»)) (chain (now «down_times») (now «down_values»))) × (ProperCorners (chain (now «up_times») (now «up_values»)) (chain (now «down_times») (now «down_values»)) x) × (RowRoom (points x) (now ps) (now qs) (now ds)) ⌝ }
+    ensures { λ r. ⌜ CornersListed (chain (now («up_times» .entry)) (now («up_values» .entry))) (chain (now («down_times» .entry)) (now («down_values» .entry))) x (now (ps .entry)) (now (qs .entry)) (now (ds .entry)) (now (ps .exit)) (now (qs .exit)) (now (ds .exit)) r ⌝ }
 {
     let slow = x.slow;
     let fast = x.fast;
@@ -77,11 +76,11 @@ pub fn list_corners(
         let lower = x.lower;
         let a = upper.start;
         let b = upper.end;
-        let m = list_chain(times, highs, up, a, b, ps, qs, ds, 1);
+        let m = list_chain(up_times, up_values, a, b, ps, qs, ds, 1);
         put(ps, qs, ds, m, fast);
         let c = lower.start;
         let e = lower.end;
-        list_chain(times, lows, down, c, e, ps, qs, ds, m + 1)
+        list_chain(down_times, down_values, c, e, ps, qs, ds, m + 1)
     } else {
         1
     }

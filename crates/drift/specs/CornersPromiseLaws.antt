@@ -29,6 +29,7 @@ use Rattle.definitions.specs.Calls.{Fit, open-strip, bounded, fitOf, cornersCal
 use Rattle.trial_laws.specs.Rows.{row-holds, row-passes}
 use Rattle.trial_laws.specs.ListTrial.{trialRows, countRows, corner-trial}
 use Rattle.trial_laws.specs.Accepted.{AcceptedLists}
+use Rattle.drift_laws.specs.ChainParts.{Chain}
 use Rattle.drift_laws.specs.LineRows.{RowRoom}
 use Rattle.drift_laws.specs.RunsByPlace.{run, run-one, run-two}
 use Rattle.drift.specs.declared.CornersAnswer.the-variants.{Corners, Open, Refused}
@@ -65,7 +66,7 @@ room-tested ps qs ds e =
     record { ps-long = ltb-false (length ps) cornerRoom p; qs-long = ltb-false (length qs) cornerRoom q; ds-long = ltb-false (length ds) cornerRoom d }
 
 -- ---- the fit of the segment running then
-module _ {ls : Lists} (a : AcceptedLists ls) (k : ℕ) (within : k ≤ length (ls .times)) {up down : List ℕ} {r : Found} (z : LastRun ls k up down r) where
+module _ {ls : Lists} (a : AcceptedLists ls) (k : ℕ) (within : k ≤ length (ls .times)) {up down : Chain} {r : Found} (z : LastRun ls k up down r) where
   fit-open : k < r .start + 2 → fitOf (runningAfter k (rangesOf ls)) ≡ open-strip
   unfolding fitOf
   fit-open h =
@@ -100,7 +101,7 @@ module _ (k : ℕ) (ls : Lists) where
           ds-are = ap (λ x. filled x (λ fit. map (λ l. l .d) (cornersIn fit)) ds) (called ns f);
         }
 
-    module _ (f : firstRow (cornerRows ns k ls) ≡ accepted tt) {up down : List ℕ} {r : Found} (a : AcceptedLists ls) (within : k ≤ length (ls .times)) (z : LastRun ls k up down r) where
+    module _ (f : firstRow (cornerRows ns k ls) ≡ accepted tt) {up down : Chain} {r : Found} (a : AcceptedLists ls) (within : k ≤ length (ls .times)) (z : LastRun ls k up down r) where
       pub promise-open : k < r .start + 2 → CornersPromise k ls ps qs ds ps qs ds Open
       unfolding cornersMeaning countOf cornersIn _>>=_ filled
       promise-open h =

@@ -1,8 +1,7 @@
 -- Filling the slices of Segment, one segment a turn.
 --
 --     Tried              the level and the lists, where no row of document 01's table holds for them
---     ChainRoom          slices of these lengths have room for the chains of a run
---     StartReady         these, and a range at which a segment is to begin
+--     StartReady         these, room for the chains of a run, and a range at which a segment is to begin
 --     FillReady          the level and the lists tried, and room for all segments: what filling takes
 --     NextSegment        the segment that begins at a range is the next one, and ends within the lists
 --     Turn               after some turns: the first segments are stored, and the ranges from `start` on hold those that are left
@@ -21,20 +20,17 @@ use Rattle.definitions.specs.Ranges.{Lists, zipRanges, rangesOf}
 use Rattle.definitions.specs.Results.{Segment, segmentsOf}
 use Rattle.definitions.specs.Trial.{outside}
 use Rattle.trial_laws.specs.Accepted.{AcceptedLists}
+use Rattle.drift_laws.specs.ChainParts.{Chain, Long}
 use Rattle.drift.specs.Columns.{Columns, Room, FirstStored}
 
 pub record Tried (v : Service) (ls : Lists) : Type 0 where
   pub level-inside : outside (v .level) ≡ false
   pub lists-accepted : AcceptedLists ls
 
--- the two chains of a run have room for all ranges
-pub record ChainRoom (ls : Lists) (up down : ℕ) : Type 0 where
-  pub up-room : length (ls .times) ≤ up
-  pub down-room : length (ls .times) ≤ down
-
-pub record StartReady (v : Service) (ls : Lists) (up down : ℕ) (start : ℕ) : Type 0 where
+pub record StartReady (v : Service) (ls : Lists) (up down : Chain) (start : ℕ) : Type 0 where
   pub tried : Tried v ls
-  pub chains : ChainRoom ls up down
+  pub up-room : Long (length (ls .times)) up
+  pub down-room : Long (length (ls .times)) down
   pub inside : start < length (ls .times)
 
 pub record FillReady (v : Service) (ls : Lists) (cs : Columns) : Type 0 where

@@ -25,11 +25,11 @@ use Rattle.trial_laws.specs.RangeLists.{rangeAt, ranges-length, ranges-drop}
 use Rattle.trial_laws.specs.Accepted.{AcceptedLists}
 use Rattle.splits.specs.Greedy.{cut-one-run, cut-first-run}
 use Rattle.splits.specs.OrderedRanges.{lastTimeOf, last-append}
-use Rattle.chains.specs.Results.{slow, fast, slow-fits, fast-fits}
-use Rattle.lines.specs.LineOrder.{reduced-same, reduced-proper}
-use Rattle.lines.specs.OutlookTimes.{reachTime, reachTime-same}
+use Rattle.chains.specs.Results.{slow, fast}
+use Rattle.lines.specs.OutlookTimes.{reachTime}
 use Rattle.lines.specs.Polygon.{decides}
 use Rattle.lines.specs.RunOutlook.{outlook-by-lines}
+use Rattle.drift_laws.specs.ChainParts.{Chain}
 use Rattle.drift_laws.specs.RunsByPlace.{run, run-one, run-two, run-more, run-rest, run-ordered}
 use Rattle.fit.specs.declared.run.Reach.{Reach}
 use Rattle.values.specs.Meanings.{lineOf}
@@ -83,7 +83,7 @@ module _ (ls : Lists) (a : AcceptedLists ls) (i e : ℕ) (begins : i < e) (withi
 abbrev pub foundAt : Lists → ℕ → ℕ → Outlook → Segment
 foundAt ls i e o = record { firstTime = rangeAt ls i .time; lastTime = rangeAt ls (e - 1) .time; count = e - i; outlook = o }
 
-module _ {ls : Lists} (a : AcceptedLists ls) {i : ℕ} {up down : List ℕ} {r : Reach} (f : RunFrom ls i (length (ls .times)) up down r) (v : Service) where
+module _ {ls : Lists} (a : AcceptedLists ls) {i : ℕ} {up down : Chain} {r : Reach} (f : RunFrom ls i (length (ls .times)) up down r) (v : Service) where
   pub next-open : r .end - i < 2 → NextSegment v ls i (foundAt ls i (r .end) open-strip)
   unfolding segmentOf outlook endTime
   next-open h =
@@ -115,7 +115,7 @@ module _ {ls : Lists} (a : AcceptedLists ls) {i : ℕ} {up down : List ℕ} {r :
         let m : k + 1 ≡ r .end = omega arith in
         ap lastTimeOf (sym run-is ∙ ap (run ls i) (sym m) ∙ run-more ls a i k (omega arith) (omega arith)) ∙ last-append (run ls i k) (rangeAt ls k) []
 
-    look-is : outlook v (rangeAt ls i ∷ rangeAt ls (i + 1) ∷ run ls (i + 2) (r .end)) ≡ lookAhead (reduced (lineOf (r .polygon .slow))) (reduced (lineOf (r .polygon .fast))) v (rangeAt ls (r .end - 1) .time)
+    look-is : outlook v (rangeAt ls i ∷ rangeAt ls (i + 1) ∷ run ls (i + 2) (r .end)) ≡ lookAhead (lineOf (r .polygon .slow)) (lineOf (r .polygon .fast)) v (rangeAt ls (r .end - 1) .time)
     look-is =
         let z = f .polygon-is h in
         let s = rangeAt ls i in
@@ -124,16 +124,11 @@ module _ {ls : Lists} (a : AcceptedLists ls) {i : ℕ} {up down : List ℕ} {r :
         let last = rangeAt ls (r .end - 1) .time in
         let k = slow s t ws in
         let l = fast s t ws in
-        let kp = slow-fits s t ws ordered line .positive in
-        let lp = fast-fits s t ws ordered line .positive in
         outlook-by-lines s t ws ordered line (subst (λ x. x ≤ mostTime) (sym last-time) late) v
         ∙ ap (λ x. lines (reduced k) (reduced l) (reachTime v x l) (reachTime v x k)) last-time
-        ∙ ap₂ (lines (reduced k) (reduced l))
-        (reachTime-same v last late lp (reduced-proper l lp .positive) (reduced-same l lp))
-        (reachTime-same v last late kp (reduced-proper k kp .positive) (reduced-same k kp))
-        ∙ ap₂ (λ x y. lookAhead (reduced x) (reduced y) v last) (sym (z .slow-is)) (sym (z .fast-is))
+        ∙ ap₂ (λ x y. lookAhead x y v last) (sym (z .slow-is)) (sym (z .fast-is))
 
-    pub next-lines : NextSegment v ls i (foundAt ls i (r .end) (lookAhead (reduced (lineOf (r .polygon .slow))) (reduced (lineOf (r .polygon .fast))) v (rangeAt ls (r .end - 1) .time)))
+    pub next-lines : NextSegment v ls i (foundAt ls i (r .end) (lookAhead (lineOf (r .polygon .slow)) (lineOf (r .polygon .fast)) v (rangeAt ls (r .end - 1) .time)))
     unfolding segmentOf endTime
     next-lines =
         let n : length (run ls i (r .end)) ≡ r .end - i = run-long ls a i (r .end) (f .begins) (f .within) in

@@ -1,7 +1,7 @@
 // Every segment into the lent slices.
-ghost use lib.ListN.{length};
 ghost use Rattle.definitions.specs.Ranges.{rangesOf};
 ghost use Rattle.definitions.specs.Results.{segmentsOf};
+ghost use Rattle.drift_laws.specs.ChainParts.{chain};
 ghost use Rattle.values.specs.Meanings.{serviceOf, segmentOf};
 ghost use Rattle.drift.specs.Columns.{columns, AllStored};
 ghost use Rattle.drift.specs.Filling.{StartReady, FillReady, NextSegment};
@@ -19,20 +19,31 @@ fn segment_from(
     times: &[u32],
     lows: &[i32],
     highs: &[i32],
-    up: &mut [u32],
-    down: &mut [u32],
+    up_times: &mut [u32],
+    up_values: &mut [i32],
+    down_times: &mut [u32],
+    down_values: &mut [i32],
     start: usize,
 ) -> Segment
-    requires { ⌜ StartReady (serviceOf v) (record { times = now times; lows = now lows; highs = now highs }) (length (now up)) (length (now down)) start ⌝ }
+    requires { ⌜ StartReady (serviceOf v) (record { times = now times; lows = now lows; highs = now highs }) (chain (now «up_times») (now «up_values»)) (chain (now «down_times») (now «down_values»)) start ⌝ }
     ensures { λ r. ⌜ NextSegment (serviceOf v) (record { times = now (times .entry); lows = now (lows .entry); highs = now (highs .entry) }) start (segmentOf r) ⌝ }
 {
-    let n = times.len() as u32;
-    let begin = start as u32;
-    let found = run_from(times, highs, lows, up, down, begin, n);
+    let n = times.len();
+    let found = run_from(
+        times,
+        highs,
+        lows,
+        up_times,
+        up_values,
+        down_times,
+        down_values,
+        start,
+        n,
+    );
     let end = found.end;
     let first_time = times[start];
-    let last_time = times[end as usize - 1];
-    let count = end - begin;
+    let last_time = times[end - 1];
+    let count = (end - start) as u32;
     if count < 2 {
         return Segment {
             first_time,
@@ -53,7 +64,7 @@ fn segment_from(
     }
 }
 
-// Stores each segment at its place, and counts them. `up` and `down` hold the chains of the run at hand.
+// Stores each segment at its place, and counts them. The four arrays hold the chains of the run at hand.
 pub fn fill(
     v: Service,
     times: &[u32],
@@ -74,12 +85,24 @@ pub fn fill(
     requires { ⌜ FillReady (serviceOf v) (record { times = now times; lows = now lows; highs = now highs }) (columns (now «first_times») (now «last_times») (now counts) (now «slow_ps») (now «slow_qs») (now «slow_ds») (now «fast_ps») (now «fast_qs») (now «fast_ds») (now somes) (now alls)) ⌝ }
     ensures { λ r. ⌜ AllStored r (segmentsOf (serviceOf v) (rangesOf (record { times = now (times .entry); lows = now (lows .entry); highs = now (highs .entry) }))) (columns (now («first_times» .entry)) (now («last_times» .entry)) (now (counts .entry)) (now («slow_ps» .entry)) (now («slow_qs» .entry)) (now («slow_ds» .entry)) (now («fast_ps» .entry)) (now («fast_qs» .entry)) (now («fast_ds» .entry)) (now (somes .entry)) (now (alls .entry))) (columns (now («first_times» .exit)) (now («last_times» .exit)) (now (counts .exit)) (now («slow_ps» .exit)) (now («slow_qs» .exit)) (now («slow_ds» .exit)) (now («fast_ps» .exit)) (now («fast_qs» .exit)) (now («fast_ds» .exit)) (now (somes .exit)) (now (alls .exit))) ⌝ }
 {
-    let mut up = [0u32; 4096];
-    let mut down = [0u32; 4096];
+    let mut up_times = [0u32; 4096];
+    let mut up_values = [0i32; 4096];
+    let mut down_times = [0u32; 4096];
+    let mut down_values = [0i32; 4096];
     let mut start = 0;
     let mut count = 0;
     while start < times.len() {
-        let segment = segment_from(v, times, lows, highs, &mut up, &mut down, start);
+        let segment = segment_from(
+            v,
+            times,
+            lows,
+            highs,
+            &mut up_times,
+            &mut up_values,
+            &mut down_times,
+            &mut down_values,
+            start,
+        );
         let ranges = segment.count as usize;
         let row = row_of(segment);
         first_times[count] = row.first_time;

@@ -99,15 +99,34 @@ pub fn corners(
     if corner_trial::count_outside(k, times.len()) {
         return CornersAnswer::Refused(9);
     }
-    let mut up = [0u32; 4096];
-    let mut down = [0u32; 4096];
-    let end = k as u32;
-    let found = fit::last_run::last_run(times, highs, lows, &mut up, &mut down, end);
+    let mut up_times = [0u32; 4096];
+    let mut up_values = [0i32; 4096];
+    let mut down_times = [0u32; 4096];
+    let mut down_values = [0i32; 4096];
+    let found = fit::last_run::last_run(
+        times,
+        highs,
+        lows,
+        &mut up_times,
+        &mut up_values,
+        &mut down_times,
+        &mut down_values,
+        k,
+    );
     let start = found.start;
-    if end - start < 2 {
+    if k - start < 2 {
         return CornersAnswer::Open;
     }
     let polygon = found.polygon;
-    let count = corner_list::list_corners(times, highs, lows, &up, &down, polygon, ps, qs, ds);
+    let count = corner_list::list_corners(
+        &up_times,
+        &up_values,
+        &down_times,
+        &down_values,
+        polygon,
+        ps,
+        qs,
+        ds,
+    );
     CornersAnswer::Corners(count)
 }

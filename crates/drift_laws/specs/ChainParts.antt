@@ -1,13 +1,16 @@
--- A chain of points as a part of a slice: the entries from a to b, each the number of a range, stand for ends of these ranges.
+-- A chain of points as a part of two slices, one of times and one of values: the entries from a to b stand for ends of ranges.
 --
+--     Chain, chain ts vs       the two slices
+--     store c m t u            a point stored at the place m
+--     Long n c                 both slices have n entries
 --     part f a n               the n points f a, f (a + 1), .. in their order
 --     stack f a n              the same, the last one first
 --     between f a b            the points from a up to, not including, b
---     ofChain flip ts es c     the points that the range numbers c stand for
+--     ofChain flip c           the points that the entries of c stand for
 --     part-snoc, head-between, last-between   the last point apart; the first and the last point
 --     part-mirrored            the points in the mirror are the mirror images
 --     store-push               a store at the end adds a point
---     alone, two               a slice whose first entry, first two entries were stored
+--     alone, two               slices whose first entry, first two entries were stored
 --     PoppedTo, popped, pop-step, pop-stop, pop-one   popping moves the end: what one test r of the last two points says of `popEnd`
 --     DroppedTo, drop-step, drop-stop, drop-one       dropping moves the start: what one test r of the first two points says of `dropOver`
 --
@@ -29,7 +32,22 @@ use Rattle.chains.specs.Chain.{headOf, lastOf, lastFrom}
 use Rattle.chains.specs.Cut.{dropOver, dropOverIf}
 use Rattle.chains.specs.Pop.{trim, trimIf, popEnd}
 use Rattle.drift_laws.specs.TestedSigns.{by-not-under, by-under}
-use Rattle.drift_laws.specs.RangeEnds.{endAt, end-mirrored}
+use Rattle.drift_laws.specs.RangeEnds.{endOf, end-mirrored}
+
+pub record Chain : Type 0 where
+  pub times : List ℕ
+  pub values : List ℤ
+
+abbrev pub chain : List ℕ → List ℤ → Chain
+chain ts vs = record { times = ts; values = vs }
+
+abbrev pub store : Chain → ℕ → ℕ → ℤ → Chain
+store c m t u = chain (set (c .times) m t) (set (c .values) m u)
+
+-- both slices have n entries
+pub record Long (n : ℕ) (c : Chain) : Type 0 where
+  pub times-long : n ≤ length (c .times)
+  pub values-long : n ≤ length (c .values)
 
 unfoldable pub part : (ℕ → Point) → ℕ → ℕ → List Point
 part f a zero = []
@@ -42,8 +60,8 @@ stack f a (suc n) = f (a + n) ∷ stack f a n
 abbrev pub between : (ℕ → Point) → ℕ → ℕ → List Point
 between f a b = part f a (b - a)
 
-abbrev pub ofChain : Bool → List ℕ → List ℤ → List ℕ → ℕ → Point
-ofChain flip ts es c i = endAt flip ts es (getD c i 0)
+abbrev pub ofChain : Bool → Chain → ℕ → Point
+ofChain flip c i = endOf flip (getD (c .times) i 0) (getD (c .values) i (pos 0))
 
 pub part-snoc : (f : ℕ → Point) (a n : ℕ) → part f a (suc n) ≡ part f a n ++ (f (a + n) ∷ [])
 unfolding part
@@ -75,10 +93,10 @@ last-between f a b h =
     ap (λ n. lastOf (part f a n)) e ∙ ap lastOf (part-snoc f a (b - a - 1)) ∙ last-end (part f a (b - a - 1)) (f (a + (b - a - 1))) ∙ ap f i
 
 -- ---- the mirror image
-pub part-mirrored : (ts : List ℕ) (es : List ℤ) (c : List ℕ) (a n : ℕ) → part (ofChain true ts es c) a n ≡ negs (part (ofChain false ts es c) a n)
+pub part-mirrored : (c : Chain) (a n : ℕ) → part (ofChain true c) a n ≡ negs (part (ofChain false c) a n)
 unfolding part
-part-mirrored ts es c a zero = refl
-part-mirrored ts es c a (suc n) = ap₂ (λ A xs. A ∷ xs) (end-mirrored ts es (getD c a 0)) (part-mirrored ts es c (suc a) n)
+part-mirrored c a zero = refl
+part-mirrored c a (suc n) = ap₂ (λ A xs. A ∷ xs) (end-mirrored (getD (c .times) a 0) (getD (c .values) a (pos 0))) (part-mirrored c (suc a) n)
 
 -- ---- stores
 part-same : (f g : ℕ → Point) (a n : ℕ) → ((i : ℕ) → i < a + n → f i ≡ g i) → part f a n ≡ part g a n
@@ -90,32 +108,32 @@ part-one : (f : ℕ → Point) → part f 0 1 ≡ f 0 ∷ []
 unfolding part
 part-one f = refl
 
-part-two : (f : ℕ → Point) → part f 0 2 ≡ f 0 ∷ f 1 ∷ []
-unfolding part
-part-two f = refl
-
-module _ (flip : Bool) (ts : List ℕ) (es : List ℤ) (c : List ℕ) where
+module _ (flip : Bool) (c : Chain) where
   -- past the end a store changes nothing
-  store-kept : (a b m v : ℕ) → a ≤ b → b ≤ m → between (ofChain flip ts es (set c m v)) a b ≡ between (ofChain flip ts es c) a b
-  store-kept a b m v l h = part-same (ofChain flip ts es (set c m v)) (ofChain flip ts es c) a (b - a) (λ i j. ap (endAt flip ts es) (getD-set-other c m i v 0 (λ e. omega arith)))
+  store-kept : (a b m t : ℕ) (u : ℤ) → a ≤ b → b ≤ m → between (ofChain flip (store c m t u)) a b ≡ between (ofChain flip c) a b
+  store-kept a b m t u l h =
+      part-same (ofChain flip (store c m t u)) (ofChain flip c) a (b - a)
+      (λ i j. ap₂ (endOf flip) (getD-set-other (c .times) m i t 0 (λ e. omega arith)) (getD-set-other (c .values) m i u (pos 0) (λ e. omega arith)))
 
-  pub store-push : (a m v : ℕ) → a ≤ m → m < length c → between (ofChain flip ts es (set c m v)) a (m + 1) ≡ between (ofChain flip ts es c) a m ++ (endAt flip ts es v ∷ [])
-  store-push a m v h l =
+  stored-at : (m t : ℕ) (u : ℤ) → Long (m + 1) c → ofChain flip (store c m t u) m ≡ endOf flip t u
+  stored-at m t u l = ap₂ (endOf flip) (getD-set-same (c .times) m t 0 (omega (arith, l .times-long))) (getD-set-same (c .values) m u (pos 0) (omega (arith, l .values-long)))
+
+  pub store-push : (a m t : ℕ) (u : ℤ) → a ≤ m → Long (m + 1) c → between (ofChain flip (store c m t u)) a (m + 1) ≡ between (ofChain flip c) a m ++ (endOf flip t u ∷ [])
+  store-push a m t u h l =
       let i : m + 1 - a ≡ suc (m - a) = omega arith in
       let j : a + (m - a) ≡ m = omega arith in
-      ap (part (ofChain flip ts es (set c m v)) a) i
-      ∙ part-snoc (ofChain flip ts es (set c m v)) a (m - a)
-      ∙ ap₂ (λ xs A. xs ++ (A ∷ [])) (store-kept a m m v (omega arith) (omega arith)) (ap (ofChain flip ts es (set c m v)) j ∙ ap (endAt flip ts es) (getD-set-same c m v 0 l))
+      ap (part (ofChain flip (store c m t u)) a) i
+      ∙ part-snoc (ofChain flip (store c m t u)) a (m - a)
+      ∙ ap₂ (λ xs A. xs ++ (A ∷ [])) (store-kept a m m t u (omega arith) (omega arith)) (ap (ofChain flip (store c m t u)) j ∙ stored-at m t u l)
 
-  pub alone : (v : ℕ) → 0 < length c → between (ofChain flip ts es (set c 0 v)) 0 1 ≡ endAt flip ts es v ∷ []
-  alone v h = part-one (ofChain flip ts es (set c 0 v)) ∙ ap (λ j. endAt flip ts es j ∷ []) (getD-set-same c 0 v 0 h)
+  pub alone : (t : ℕ) (u : ℤ) → Long 1 c → between (ofChain flip (store c 0 t u)) 0 1 ≡ endOf flip t u ∷ []
+  alone t u h = part-one (ofChain flip (store c 0 t u)) ∙ ap (λ A. A ∷ []) (stored-at 0 t u h)
 
-  pub two : (v w : ℕ) → 1 < length c → between (ofChain flip ts es (set (set c 0 v) 1 w)) 0 2 ≡ endAt flip ts es v ∷ endAt flip ts es w ∷ []
-  two v w h =
-      part-two (ofChain flip ts es (set (set c 0 v) 1 w))
-      ∙ ap₂ (λ a b. endAt flip ts es a ∷ endAt flip ts es b ∷ [])
-      (getD-set-other (set c 0 v) 1 0 w 0 (λ e. omega arith) ∙ getD-set-same c 0 v 0 (omega arith))
-      (getD-set-same (set c 0 v) 1 w 0 (simp length-set (omega arith)))
+pub two : (flip : Bool) (c : Chain) (t : ℕ) (u : ℤ) (s : ℕ) (v : ℤ) → Long 2 c → between (ofChain flip (store (store c 0 t u) 1 s v)) 0 2 ≡ endOf flip t u ∷ endOf flip s v ∷ []
+two flip c t u s v h =
+    store-push flip (store c 0 t u) 0 1 s v (omega arith)
+    (record { times-long = omega (arith, h .times-long, length-set (c .times) 0 t); values-long = omega (arith, h .values-long, length-set (c .values) 0 u) })
+    ∙ ap (λ xs. xs ++ (endOf flip s v ∷ [])) (alone flip c t u (record { times-long = omega (arith, h .times-long); values-long = omega (arith, h .values-long) }))
 
 -- ---- popping
 reverse-stack : (f : ℕ → Point) (a n : ℕ) → reverse (stack f a n) ≡ part f a n

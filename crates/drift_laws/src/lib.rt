@@ -1,4 +1,4 @@
-// Laws of the fit over chains of range numbers. All of it stands in specs/; a crate has at least one function, and this is it.
+// Laws of the fit over chains of points in slices. All of it stands in specs/; a crate has at least one function, and this is it.
 ghost use mathlib.Core.Path.{_≡_};
 
 pub fn same(x: u8) -> u8

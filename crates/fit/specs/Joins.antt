@@ -1,7 +1,8 @@
 -- What joining one more range answers, and what beginning with two answers, in terms of the polygon that is stood for.
 --
---     PointAt, point-slow, point-cut, point-fast, point-none   the lines through the one value of range k
---     JoinedAt, join-cuts, join-point                          range k joined: with a low below its high, with one value
+--     LineJoining, line-joining, joining-ends                  the line through two ends
+--     PointAt, point-slow, point-cut, point-fast, point-none   the lines through the one value of a range
+--     JoinedAt, join-cuts, join-point                          a range joined: with a low below its high, with one value
 --     StartedAt, start-first, start-second, start-both         the polygon of two ranges: the first has one value, only the second has, neither has
 --
 -- Assumes nothing.
@@ -10,141 +11,223 @@ use mathlib.Core.Bool.{Bool, true, false}
 use mathlib.Core.List.{List, [], _∷_}
 use Prim.Native.Nat.{ℕ, _+_, _<_, _≤_}
 use native.Mathlib.Omega.{arith}
-use lib.ListN.{length, getD, set}
+use lib.ListN.{length, length-set, set}
 use lib.IntN.{ℤ, pos}
-use lib.Signed.{leZ, ltZ, _≤ℤ_}
-use Rattle.trial_laws.specs.RangeLists.{rangeAt}
-use Rattle.chains.specs.Points.{Point, gap, through}
+use lib.Signed.{leZ, ltZ}
+use Rattle.integers.specs.Bounds.{Within}
+use Rattle.definitions.specs.Spans.{mostValue}
+use Rattle.trial_laws.specs.Accepted.{ProperRange}
+use Rattle.chains.specs.Points.{gap, through, Point as Point01}
+use Rattle.chains.specs.Ends.{H, L}
 use Rattle.chains.specs.Start.{start, startWith}
 use Rattle.chains.specs.PopEnd.{popAbove, popBelow, popSpot, popJoin}
 use Rattle.drift_laws.specs.TestedSigns.{less-yes, equal-of}
-use Rattle.drift_laws.specs.RangeEnds.{endAt, lent, high-end, low-end, one-end}
-use Rattle.drift_laws.specs.ChainParts.{between, ofChain, alone, two}
+use Rattle.drift_laws.specs.EndReads.{span-alone, span-two}
+use Rattle.drift_laws.specs.ChainParts.{Chain, store, Long, between, ofChain, alone, two}
 use Rattle.drift_laws.specs.PolygonSteps as Steps
 use Rattle.values.specs.declared.Line.{Line}
+use Rattle.fit.specs.declared.points.Point.{Point}
+use Rattle.fit.specs.declared.ends.End.{End}
+use Rattle.fit.specs.declared.ends.Range.{Range}
 use Rattle.fit.specs.declared.polygon.Polygon.{Polygon}
 use Rattle.fit.specs.declared.chain.Trimmed.{Trimmed}
 use Rattle.values.specs.Meanings.{lineOf}
-use Rattle.fit.specs.LinesOfEnds.{LineJoining}
-use Rattle.fit.specs.Polygons.{polygonOf, Shape, shape-more, TrimmedAt}
-use Rattle.fit.specs.Cuts.{AboveAt, BelowAt}
+use Rattle.values.specs.Small.{Bounded}
+use Rattle.fit.specs.RangesByValue.{at, putEnd, rangeOf, highOf, lowOf, high-is, low-is}
+use Rattle.fit.specs.LinesOfEnds.{pointOf, Seen, LineThrough}
+use Rattle.fit.specs.Polygons.{polygonOf, Held, Shape, Few, TrimmedAt}
+use Rattle.fit.specs.Cuts.{subst2, AboveAt, BelowAt}
 
-pub record PointAt (ts : List ℕ) (gs es : List ℤ) (up down : List ℕ) (x : Polygon) (k : ℕ) (up′ down′ : List ℕ) (r : Polygon) : Type 0 where
-  pub is : polygonOf false ts gs es up′ down′ r ≡ popSpot (endAt false ts gs k) (polygonOf false ts gs es up down x)
-  pub shape : Shape r (k + 1) (k + 1)
+pub record LineJoining (a b : End) (r : Line) : Type 0 where
+  pub is : lineOf r ≡ through (at false a) (at false b)
+  pub bounded : Bounded r
 
-pub record JoinedAt (ts : List ℕ) (gs es : List ℤ) (up down : List ℕ) (x : Polygon) (k : ℕ) (up′ down′ : List ℕ) (r : Polygon) : Type 0 where
-  pub is : polygonOf false ts gs es up′ down′ r ≡ popJoin (rangeAt (lent ts gs es) k) (polygonOf false ts gs es up down x)
-  pub shape : Shape r (k + 1) (k + 1)
+pub line-joining : {a b : End} {n m : Point} {r : Line} → Seen false a n → Seen false b m → LineThrough n m r → LineJoining a b r
+line-joining p q l = record { is = l .is ∙ ap₂ (λ A B. through A B) (p .is) (q .is); bounded = l .bounded }
 
-pub record StartedAt (ts : List ℕ) (gs es : List ℤ) (i k : ℕ) (up down : List ℕ) (r : Polygon) : Type 0 where
-  pub is : polygonOf false ts gs es up down r ≡ start (rangeAt (lent ts gs es) i) (rangeAt (lent ts gs es) k)
-  pub shape : Shape r (k + 1) (k + 1)
+pub joining-ends : {a b a′ b′ : End} {r : Line} → LineJoining a b r → a ≡ a′ → b ≡ b′ → LineJoining a′ b′ r
+joining-ends {r} l p q = subst2 (λ a b. LineJoining a b r) p q l
+
+pub record PointAt (up down : Chain) (x : Polygon) (e : End) (up′ down′ : Chain) (r : Polygon) : Type 0 where
+  pub is : polygonOf false up′ down′ r ≡ popSpot (at false e) (polygonOf false up down x)
+  pub shape : Shape r up′ down′
+  pub up-most : r .upper .end ≤ x .upper .end
+  pub down-most : r .lower .end ≤ x .lower .end
+
+pub record JoinedAt (up down : Chain) (x : Polygon) (r : Range) (up′ down′ : Chain) (y : Polygon) : Type 0 where
+  pub is : polygonOf false up′ down′ y ≡ popJoin (rangeOf r) (polygonOf false up down x)
+  pub shape : Shape y up′ down′
+  pub up-more : y .upper .end ≤ x .upper .end + 1
+  pub down-more : y .lower .end ≤ x .lower .end + 1
+
+pub record StartedAt (r s : Range) (up down : Chain) (x : Polygon) : Type 0 where
+  pub is : polygonOf false up down x ≡ start (rangeOf r) (rangeOf s)
+  pub shape : Shape x up down
+  pub few : Few x 2
+
+-- the first entries of slices, after one, two were stored
+held-one : (c : Chain) (e : End) → Long 1 c → Within mostValue (e .value) → Held (record { start = 0; end = 1 }) (store c 0 (e .time) (e .value))
+held-one c e l w =
+    record {
+      some = omega arith;
+      long = record { times-long = omega (arith, l .times-long, length-set (c .times) 0 (e .time)); values-long = omega (arith, l .values-long, length-set (c .values) 0 (e .value)) };
+      in-span = span-alone (c .values) (e .value) (omega (arith, l .values-long)) w;
+    }
+
+held-two : (c : Chain) (e f : End) → Long 2 c → Within mostValue (e .value) → Within mostValue (f .value) → Held (record { start = 0; end = 2 }) (store (store c 0 (e .time) (e .value)) 1 (f .time) (f .value))
+held-two c e f l w v =
+    record {
+      some = omega arith;
+      long =
+          record {
+            times-long = omega (arith, l .times-long, length-set (c .times) 0 (e .time), length-set (set (c .times) 0 (e .time)) 1 (f .time));
+            values-long = omega (arith, l .values-long, length-set (c .values) 0 (e .value), length-set (set (c .values) 0 (e .value)) 1 (f .value));
+          };
+      in-span = span-two (c .values) (e .value) (f .value) (omega (arith, l .values-long)) w v;
+    }
+
+one-long : {c : Chain} {n : ℕ} → Long n c → 0 < n → Long 1 c
+one-long l h = record { times-long = omega (arith, l .times-long); values-long = omega (arith, l .values-long) }
 
 -- ---- the lines through one value
-module _ {ts : List ℕ} {gs es : List ℤ} {up down : List ℕ} {x : Polygon} {k : ℕ} (s : Shape x k k) {on : Bool} (e : on ≡ leZ (pos 0) (gap (lineOf (x .slow)) (endAt false ts gs k))) where
-  pub point-slow : on ≡ true → {r : Polygon} → r ≡ record { upper = x .upper; lower = x .lower; slow = x .slow; fast = x .slow } → PointAt ts gs es up down x k up down r
+module _ {up down : Chain} {x : Polygon} {e : End} {n : Point} (s : Shape x up down) (z : Seen false e n) {on : Bool} (f : on ≡ leZ (pos 0) (gap (lineOf (x .slow)) (pointOf n))) where
+  -- a test of a line against n is one against the end
+  told : (test : ℤ → Bool) (l : Line) {r : Bool} → r ≡ test (gap (lineOf l) (pointOf n)) → (b : Bool) → r ≡ b → test (gap (lineOf l) (at false e)) ≡ b
+  told test l e b p = sym (ap (λ N. test (gap (lineOf l) N)) (z .is)) ∙ sym e ∙ p
+
+  pub point-slow : on ≡ true → {r : Polygon} → r ≡ record { upper = x .upper; lower = x .lower; slow = x .slow; fast = x .slow } → PointAt up down x e up down r
   point-slow o q =
-      let a = s .up-to in
-      let b = s .down-to in
-      subst (PointAt ts gs es up down x k up down) (sym q)
+      subst (PointAt up down x e up down) (sym q)
       (record {
-        is = sym (Steps.spot-slow (endAt false ts gs k) (polygonOf false ts gs es up down x) (sym e ∙ o));
-        shape = record { up = s .up; up-to = omega arith; down = s .down; down-to = omega arith; slow-in = s .slow-in; fast-in = s .slow-in };
+        is = sym (Steps.spot-slow (at false e) (polygonOf false up down x) (told (leZ (pos 0)) (x .slow) f true o));
+        shape = record { upper-held = s .upper-held; lower-held = s .lower-held; slow-in = s .slow-in; fast-in = s .slow-in };
+        up-most = omega arith;
+        down-most = omega arith;
       })
 
-  module _ (o : on ≡ false) {over : Bool} (f : over ≡ ltZ (pos 0) (gap (lineOf (x .fast)) (endAt false ts gs k))) where
-    pub point-cut : {w : Trimmed} → over ≡ true → getD es k (pos 0) ≡ getD gs k (pos 0) → 0 < length up → 0 < length down → TrimmedAt false ts gs es up down (x .upper) (x .lower) k w
+  module _ (o : on ≡ false) {over : Bool} (g : over ≡ ltZ (pos 0) (gap (lineOf (x .fast)) (pointOf n))) where
+    pub point-cut : {w : Trimmed} → over ≡ true → Within mostValue (e .value) → TrimmedAt false up down (x .upper) (x .lower) (at false e) w
         → {r : Polygon} → r ≡ record { upper = record { start = 0; end = 1 }; lower = record { start = 0; end = 1 }; slow = w .slow; fast = w .fast }
-        → PointAt ts gs es up down x k (set up 0 k) (set down 0 k) r
-    point-cut h p lu ld t q =
-        subst (PointAt ts gs es up down x k (set up 0 k) (set down 0 k)) (sym q)
+        → {up′ down′ : Chain} → up′ ≡ putEnd up 0 e → down′ ≡ putEnd down 0 e → PointAt up down x e up′ down′ r
+    point-cut h p t {r} q {up′} {down′} ub db =
+        let a = s .upper-held .some in
+        let b = s .lower-held .some in
+        let lu = one-long (s .upper-held .long) (omega arith) in
+        let ld = one-long (s .lower-held .long) (omega arith) in
+        subst2 (λ u d. PointAt up down x e u d r) (sym ub) (sym db)
+        (subst (PointAt up down x e (putEnd up 0 e) (putEnd down 0 e)) (sym q)
         (record {
           is =
               (λ i.
               record {
-                upper = alone false ts gs up k lu i;
-                lower = (alone false ts es down k ld ∙ ap (λ A. A ∷ []) (one-end ts gs es k p)) i;
+                upper = alone false up (e .time) (e .value) lu i;
+                lower = alone false down (e .time) (e .value) ld i;
                 slow = t .slow-is i;
                 fast = t .fast-is i;
               })
-              ∙ sym (Steps.spot-cut (endAt false ts gs k) (polygonOf false ts gs es up down x) (sym e ∙ o) (sym f ∙ h));
-          shape = record { up = omega arith; up-to = omega arith; down = omega arith; down-to = omega arith; slow-in = t .slow-in; fast-in = t .fast-in };
-        })
+              ∙ sym (Steps.spot-cut (at false e) (polygonOf false up down x) (told (leZ (pos 0)) (x .slow) f false o) (told (ltZ (pos 0)) (x .fast) g true h));
+          shape = record { upper-held = held-one up e lu p; lower-held = held-one down e ld p; slow-in = t .slow-in; fast-in = t .fast-in };
+          up-most = omega arith;
+          down-most = omega arith;
+        }))
 
-    module _ {met : Bool} (g : met ≡ leZ (pos 0) (gap (lineOf (x .fast)) (endAt false ts gs k))) where
-      pub point-fast : over ≡ false → met ≡ true → {r : Polygon} → r ≡ record { upper = x .upper; lower = x .lower; slow = x .fast; fast = x .fast } → PointAt ts gs es up down x k up down r
+    module _ {met : Bool} (m : met ≡ leZ (pos 0) (gap (lineOf (x .fast)) (pointOf n))) where
+      pub point-fast : over ≡ false → met ≡ true → {r : Polygon} → r ≡ record { upper = x .upper; lower = x .lower; slow = x .fast; fast = x .fast } → PointAt up down x e up down r
       point-fast h i q =
-          let a = s .up-to in
-          let b = s .down-to in
-          subst (PointAt ts gs es up down x k up down) (sym q)
+          subst (PointAt up down x e up down) (sym q)
           (record {
-            is = sym (Steps.spot-fast (endAt false ts gs k) (polygonOf false ts gs es up down x) (sym e ∙ o) (sym f ∙ h) (sym g ∙ i));
-            shape = record { up = s .up; up-to = omega arith; down = s .down; down-to = omega arith; slow-in = s .fast-in; fast-in = s .fast-in };
+            is = sym (Steps.spot-fast (at false e) (polygonOf false up down x) (told (leZ (pos 0)) (x .slow) f false o) (told (ltZ (pos 0)) (x .fast) g false h) (told (leZ (pos 0)) (x .fast) m true i));
+            shape = record { upper-held = s .upper-held; lower-held = s .lower-held; slow-in = s .fast-in; fast-in = s .fast-in };
+            up-most = omega arith;
+            down-most = omega arith;
           })
 
-      pub point-none : met ≡ false → PointAt ts gs es up down x k up down x
-      point-none i = record { is = sym (Steps.spot-none (endAt false ts gs k) (polygonOf false ts gs es up down x) (sym e ∙ o) (sym g ∙ i)); shape = shape-more s (omega arith) (omega arith) }
+      pub point-none : met ≡ false → PointAt up down x e up down x
+      point-none i =
+          record {
+            is = sym (Steps.spot-none (at false e) (polygonOf false up down x) (told (leZ (pos 0)) (x .slow) f false o) (told (leZ (pos 0)) (x .fast) m false i));
+            shape = s;
+            up-most = omega arith;
+            down-most = omega arith;
+          }
 
 -- ---- one more range
-module _ {ts : List ℕ} {gs es : List ℤ} {up down up′ down′ : List ℕ} {x r : Polygon} {k : ℕ} where
-  pub join-cuts : {y : Polygon} {wide : Bool} → wide ≡ ltZ (getD es k (pos 0)) (getD gs k (pos 0)) → wide ≡ true → AboveAt false ts gs es up down x k up′ y → BelowAt ts gs es up′ down y k down′ r → JoinedAt ts gs es up down x k up′ down′ r
-  join-cuts e o a b =
-      let c = a .shape .up-to in
+module _ {up down up′ down′ : Chain} {x y : Polygon} {r : Range} where
+  pub join-cuts : {z : Polygon} {e f : End} {wide : Bool} → wide ≡ ltZ (r .low) (r .high) → wide ≡ true → e ≡ highOf r → f ≡ lowOf r → AboveAt false up down x e up′ z → BelowAt up′ down z f down′ y → JoinedAt up down x r up′ down′ y
+  join-cuts w o p q a b =
+      let ma = a .up-more in
+      let da = a .down-most in
+      let mb = b .up-most in
+      let db = b .down-more in
       record {
         is =
             b .is
-            ∙ ap₂ (λ N z. popBelow N z) (low-end ts gs es k) (a .is ∙ ap (λ N. popAbove N (polygonOf false ts gs es up down x)) (high-end ts gs es k))
-            ∙ sym (Steps.join-wide (rangeAt (lent ts gs es) k) (polygonOf false ts gs es up down x) (less-yes (sym e ∙ o)));
-        shape = shape-more (b .shape) (omega arith) (omega arith);
+            ∙ ap₂ (λ N z. popBelow N z) (ap (at false) q ∙ low-is r) (a .is ∙ ap (λ N. popAbove N (polygonOf false up down x)) (ap (at false) p ∙ high-is r))
+            ∙ sym (Steps.join-wide (rangeOf r) (polygonOf false up down x) (less-yes (sym w ∙ o)));
+        shape = b .shape;
+        up-more = omega arith;
+        down-more = omega arith;
       }
 
-  pub join-point : getD es k (pos 0) ≡ getD gs k (pos 0) → PointAt ts gs es up down x k up′ down′ r → JoinedAt ts gs es up down x k up′ down′ r
-  join-point p a =
+  pub join-point : {e : End} {wide : Bool} → wide ≡ ltZ (r .low) (r .high) → wide ≡ false → ProperRange (rangeOf r) → e ≡ highOf r → PointAt up down x e up′ down′ y → JoinedAt up down x r up′ down′ y
+  join-point w o h p a =
+      let ma = a .up-most in
+      let da = a .down-most in
       record {
-        is = a .is ∙ ap (λ N. popSpot N (polygonOf false ts gs es up down x)) (high-end ts gs es k) ∙ sym (Steps.join-point (rangeAt (lent ts gs es) k) (polygonOf false ts gs es up down x) p);
+        is = a .is ∙ ap (λ N. popSpot N (polygonOf false up down x)) (ap (at false) p ∙ high-is r) ∙ sym (Steps.join-point (rangeOf r) (polygonOf false up down x) (equal-of (h .low-high) w o));
         shape = a .shape;
+        up-more = omega arith;
+        down-more = omega arith;
       }
 
 -- ---- two ranges
-module _ {ts : List ℕ} {gs es : List ℤ} (up down : List ℕ) {i k : ℕ} {v y : Line} (s : LineJoining false ts gs es i k v) (t : LineJoining false ts es gs i k y) (late : 1 ≤ k) (lu : 1 < length up) (ld : 1 < length down) {first : Bool} (e : first ≡ ltZ (getD es i (pos 0)) (getD gs i (pos 0))) where
+module _ {r s : Range} (pr : ProperRange (rangeOf r)) (ps : ProperRange (rangeOf s)) {up down : Chain} (lu : Long 2 up) (ld : Long 2 down) {v y : Line} (sl : LineJoining (highOf r) (lowOf s) v) (fl : LineJoining (lowOf r) (highOf s) y) {first : Bool} (e : first ≡ ltZ (r .low) (r .high)) where
   -- what the first n entries of the slices stand for, with the two lines
   abbrev entries : ℕ → Polygon
   entries n = record { upper = record { start = 0; end = n }; lower = record { start = 0; end = n }; slow = v; fast = y }
 
-  polygon-with : (up′ down′ : List ℕ) (n : ℕ) {us ls : List Point} → between (ofChain false ts gs up′) 0 n ≡ us → between (ofChain false ts es down′) 0 n ≡ ls
-      → polygonOf false ts gs es up′ down′ (entries n) ≡ startWith us ls (rangeAt (lent ts gs es) i) (rangeAt (lent ts gs es) k)
-  polygon-with up′ down′ n p q =
-      λ j.
-      record {
-        upper = p j;
-        lower = q j;
-        slow = (s .is ∙ ap₂ (λ A B. through A B) (high-end ts gs es i) (low-end ts gs es k)) j;
-        fast = (t .is ∙ ap₂ (λ A B. through A B) (low-end ts gs es i) (high-end ts gs es k)) j;
-      }
+  started : (up′ down′ : Chain) (n : ℕ) {us ls : List Point01} → n ≤ 2 → Held (record { start = 0; end = n }) up′ → Held (record { start = 0; end = n }) down′
+      → between (ofChain false up′) 0 n ≡ us → between (ofChain false down′) 0 n ≡ ls → start (rangeOf r) (rangeOf s) ≡ startWith us ls (rangeOf r) (rangeOf s)
+      → {x : Polygon} → x ≡ entries n → StartedAt r s up′ down′ x
+  started up′ down′ n h hu hd p q m o =
+      subst (StartedAt r s up′ down′) (sym o)
+      (record {
+        is =
+            (λ j.
+            record {
+              upper = p j;
+              lower = q j;
+              slow = (sl .is ∙ ap₂ (λ A B. through A B) (high-is r) (low-is s)) j;
+              fast = (fl .is ∙ ap₂ (λ A B. through A B) (low-is r) (high-is s)) j;
+            })
+            ∙ sym m;
+        shape = record { upper-held = hu; lower-held = hd; slow-in = sl .bounded; fast-in = fl .bounded };
+        few = record { up-to = h; down-to = h };
+      })
 
-  entries-shape : (n : ℕ) → 0 < n → n ≤ 2 → Shape (entries n) (k + 1) (k + 1)
-  entries-shape n a b = record { up = a; up-to = omega arith; down = a; down-to = omega arith; slow-in = s .bounded; fast-in = t .bounded }
+  one-up : Long 1 up
+  one-up = one-long lu (omega arith)
 
-  started : (up′ down′ : List ℕ) (n : ℕ) → 0 < n → n ≤ 2 → polygonOf false ts gs es up′ down′ (entries n) ≡ start (rangeAt (lent ts gs es) i) (rangeAt (lent ts gs es) k) → {r : Polygon} → r ≡ entries n
-      → StartedAt ts gs es i k up′ down′ r
-  started up′ down′ n a b p q = subst (StartedAt ts gs es i k up′ down′) (sym q) (record { is = p; shape = entries-shape n a b })
+  one-down : Long 1 down
+  one-down = one-long ld (omega arith)
 
-  pub start-first : getD es i (pos 0) ≤ℤ getD gs i (pos 0) → first ≡ false → {r : Polygon} → r ≡ entries 1 → StartedAt ts gs es i k (set up 0 i) (set down 0 i) r
-  start-first le o =
-      started (set up 0 i) (set down 0 i) 1 (omega arith) (omega arith)
-      (polygon-with (set up 0 i) (set down 0 i) 1 (alone false ts gs up i (omega arith) ∙ ap (λ A. A ∷ []) (high-end ts gs es i)) (alone false ts es down i (omega arith) ∙ ap (λ A. A ∷ []) (low-end ts gs es i))
-      ∙ sym (Steps.start-first (rangeAt (lent ts gs es) i) (rangeAt (lent ts gs es) k) (equal-of le e o)))
+  alone-started : (t : Range) (p : ProperRange (rangeOf t)) → start (rangeOf r) (rangeOf s) ≡ startWith (H (rangeOf t) ∷ []) (L (rangeOf t) ∷ []) (rangeOf r) (rangeOf s)
+      → {up′ down′ : Chain} → up′ ≡ putEnd up 0 (highOf t) → down′ ≡ putEnd down 0 (lowOf t) → {x : Polygon} → x ≡ entries 1 → StartedAt r s up′ down′ x
+  alone-started t p m {up′} {down′} a b {x} o =
+      subst2 (λ u d. StartedAt r s u d x) (sym a) (sym b)
+      (started (putEnd up 0 (highOf t)) (putEnd down 0 (lowOf t)) 1 (omega arith) (held-one up (highOf t) one-up (p .high-within)) (held-one down (lowOf t) one-down (p .low-within))
+      (alone false up (t .time) (t .high) one-up ∙ ap (λ A. A ∷ []) (high-is t)) (alone false down (t .time) (t .low) one-down ∙ ap (λ A. A ∷ []) (low-is t)) m o)
 
-  module _ (o : first ≡ true) {second : Bool} (f : second ≡ ltZ (getD es k (pos 0)) (getD gs k (pos 0))) where
-    pub start-second : getD es k (pos 0) ≤ℤ getD gs k (pos 0) → second ≡ false → {r : Polygon} → r ≡ entries 1 → StartedAt ts gs es i k (set up 0 k) (set down 0 k) r
-    start-second le h =
-        started (set up 0 k) (set down 0 k) 1 (omega arith) (omega arith)
-        (polygon-with (set up 0 k) (set down 0 k) 1 (alone false ts gs up k (omega arith) ∙ ap (λ A. A ∷ []) (high-end ts gs es k)) (alone false ts es down k (omega arith) ∙ ap (λ A. A ∷ []) (low-end ts gs es k))
-        ∙ sym (Steps.start-second (rangeAt (lent ts gs es) i) (rangeAt (lent ts gs es) k) (less-yes (sym e ∙ o)) (equal-of le f h)))
+  pub start-first : first ≡ false → {up′ down′ : Chain} → up′ ≡ putEnd up 0 (highOf r) → down′ ≡ putEnd down 0 (lowOf r) → {x : Polygon} → x ≡ entries 1 → StartedAt r s up′ down′ x
+  start-first o a b q = alone-started r pr (Steps.start-first (rangeOf r) (rangeOf s) (equal-of (pr .low-high) e o)) a b q
 
-    pub start-both : second ≡ true → {r : Polygon} → r ≡ entries 2 → StartedAt ts gs es i k (set (set up 0 i) 1 k) (set (set down 0 i) 1 k) r
-    start-both h =
-        started (set (set up 0 i) 1 k) (set (set down 0 i) 1 k) 2 (omega arith) (omega arith)
-        (polygon-with (set (set up 0 i) 1 k) (set (set down 0 i) 1 k) 2 (two false ts gs up i k lu ∙ ap₂ (λ A B. A ∷ B ∷ []) (high-end ts gs es i) (high-end ts gs es k)) (two false ts es down i k ld ∙ ap₂ (λ A B. A ∷ B ∷ []) (low-end ts gs es i) (low-end ts gs es k))
-        ∙ sym (Steps.start-both (rangeAt (lent ts gs es) i) (rangeAt (lent ts gs es) k) (less-yes (sym e ∙ o)) (less-yes (sym f ∙ h))))
+  module _ (o : first ≡ true) {second : Bool} (f : second ≡ ltZ (s .low) (s .high)) where
+    pub start-second : second ≡ false → {up′ down′ : Chain} → up′ ≡ putEnd up 0 (highOf s) → down′ ≡ putEnd down 0 (lowOf s) → {x : Polygon} → x ≡ entries 1 → StartedAt r s up′ down′ x
+    start-second h a b q = alone-started s ps (Steps.start-second (rangeOf r) (rangeOf s) (less-yes (sym e ∙ o)) (equal-of (ps .low-high) f h)) a b q
+
+    pub start-both : second ≡ true → {up′ down′ : Chain} → up′ ≡ putEnd (putEnd up 0 (highOf r)) 1 (highOf s) → down′ ≡ putEnd (putEnd down 0 (lowOf r)) 1 (lowOf s) → {x : Polygon} → x ≡ entries 2 → StartedAt r s up′ down′ x
+    start-both h {up′} {down′} a b {x} q =
+        subst2 (λ u d. StartedAt r s u d x) (sym a) (sym b)
+        (started (putEnd (putEnd up 0 (highOf r)) 1 (highOf s)) (putEnd (putEnd down 0 (lowOf r)) 1 (lowOf s)) 2 (omega arith) (held-two up (highOf r) (highOf s) lu (pr .high-within) (ps .high-within)) (held-two down (lowOf r) (lowOf s) ld (pr .low-within) (ps .low-within))
+        (two false up (r .time) (r .high) (s .time) (s .high) lu ∙ ap₂ (λ A B. A ∷ B ∷ []) (high-is r) (high-is s)) (two false down (r .time) (r .low) (s .time) (s .low) ld ∙ ap₂ (λ A B. A ∷ B ∷ []) (low-is r) (low-is s))
+        (Steps.start-both (rangeOf r) (rangeOf s) (less-yes (sym e ∙ o)) (less-yes (sym f ∙ h))) q)

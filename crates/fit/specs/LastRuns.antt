@@ -23,18 +23,19 @@ use Rattle.trial_laws.specs.Accepted.{AcceptedLists}
 use Rattle.splits.specs.Cutting.{cut-cons, first-run}
 use Rattle.splits.specs.Greedy.{cut-one-run, cut-first-run}
 use Rattle.lines.specs.Polygon.{decides}
+use Rattle.drift_laws.specs.ChainParts.{Chain}
 use Rattle.drift_laws.specs.RunsByPlace.{run, run-more, run-length, run-rest, run-ordered}
 use Rattle.fit.specs.declared.run.Reach.{Reach}
 use Rattle.fit.specs.declared.last_run.Found.{Found}
 use Rattle.fit.specs.RunsFrom.{RunFrom, PolygonAt}
 
-pub record LastRun (ls : Lists) (k : ℕ) (up down : List ℕ) (r : Found) : Type 0 where
+pub record LastRun (ls : Lists) (k : ℕ) (up down : Chain) (r : Found) : Type 0 where
   pub begins : r .start < k
   pub running-is : runningAfter k (rangesOf ls) ≡ run ls (r .start) k
   pub line : HasLine (run ls (r .start) k)
   pub polygon-is : r .start + 2 ≤ k → PolygonAt ls up down (r .start) k (r .polygon)
 
-pub record Reached (ls : Lists) (k : ℕ) (up down : List ℕ) (i : ℕ) (f : Reach) : Type 0 where
+pub record Reached (ls : Lists) (k : ℕ) (up down : Chain) (i : ℕ) (f : Reach) : Type 0 where
   pub running-from : runningAfter k (rangesOf ls) ≡ lastRun (segments (run ls i k))
   pub reach : RunFrom ls i k up down f
 
@@ -56,7 +57,7 @@ module _ {ls : Lists} (a : AcceptedLists ls) (k : ℕ) (within : k ≤ length (l
       let n : k - i ≡ length (run ls i e) + (k - e) = omega (arith, run-length ls a i e (omega arith)) in
       ap₂ take n (run-rest ls a i e h) ∙ take-append-add (run ls i e) (drop e (rangesOf ls)) (k - e)
 
-  module _ {i : ℕ} {up down : List ℕ} {f : Reach} (r : RunFrom ls i k up down f) where
+  module _ {i : ℕ} {up down : Chain} {f : Reach} (r : RunFrom ls i k up down f) where
     good : GoodRun HasLine (run ls i (f .end))
     good = good-run (run ls i (f .end)) (omega (arith, run-length ls a i (f .end) (omega (arith, r .within)), r .begins)) (r .line)
 
@@ -81,14 +82,14 @@ module _ {ls : Lists} (a : AcceptedLists ls) (k : ℕ) (within : k ≤ length (l
         ∙ later (run ls i e) (rangeAt ls e) xs
         ∙ ap (λ rs. lastRun (segments rs)) (sym rest)
 
-  pub reached-first : {up down : List ℕ} {f : Reach} → RunFrom ls 0 k up down f → Reached ls k up down 0 f
+  pub reached-first : {up down : Chain} {f : Reach} → RunFrom ls 0 k up down f → Reached ls k up down 0 f
   unfolding runningAfter
   reached-first r = let n : k ≡ k - 0 = omega arith in record { running-from = ap (λ n. lastRun (segments (take n (rangesOf ls)))) n; reach = r }
 
-  pub reached-next : {i : ℕ} {up down up′ down′ : List ℕ} {f g : Reach} → Reached ls k up down i f → f .end < k → RunFrom ls (f .end) k up′ down′ g → Reached ls k up′ down′ (f .end) g
+  pub reached-next : {i : ℕ} {up down up′ down′ : Chain} {f g : Reach} → Reached ls k up down i f → f .end < k → RunFrom ls (f .end) k up′ down′ g → Reached ls k up′ down′ (f .end) g
   reached-next z h r = record { running-from = z .running-from ∙ more (z .reach) h; reach = r }
 
-  pub reached-last : {i : ℕ} {up down : List ℕ} {f : Reach} → Reached ls k up down i f → k ≤ f .end → LastRun ls k up down (record { start = i; polygon = f .polygon })
+  pub reached-last : {i : ℕ} {up down : Chain} {f : Reach} → Reached ls k up down i f → k ≤ f .end → LastRun ls k up down (record { start = i; polygon = f .polygon })
   reached-last {i} {up} {down} {f} z h =
       let r = z .reach in
       let e : f .end ≡ k = omega (arith, r .within) in

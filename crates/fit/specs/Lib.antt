@@ -1,3 +1,4 @@
+pub mod RangesByValue
 pub mod LinesOfEnds
 pub mod Polygons
 pub mod Cuts

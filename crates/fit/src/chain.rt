@@ -1,12 +1,13 @@
-// The polygon of a fit as two chains of ends of ranges, each a part of a slice of range numbers, and two lines. A new end shortens both chains: loops only move the end of the one and the start of the other.
-ghost use Prim.Native.Nat.{_<_, _≤_};
-ghost use lib.ListN.{length};
-ghost use Rattle.drift_laws.specs.RangeEnds.{endAt};
-ghost use Rattle.drift_laws.specs.EndReads.{Values};
-ghost use Rattle.drift_laws.specs.ChainParts.{ofChain, PoppedTo, DroppedTo};
-ghost use Rattle.fit.specs.Polygons.{TrimmedAt};
+// What a new end leaves of a polygon's two chains. It shortens both: loops only move the end of the one and the start of the other.
+ghost use Prim.Native.Nat.{_<_};
+ghost use Rattle.drift_laws.specs.EndReads.{InSpan};
+ghost use Rattle.drift_laws.specs.ChainParts.{chain, ofChain, Long, PoppedTo, DroppedTo};
+ghost use Rattle.fit.specs.LinesOfEnds.{Proper, pointOf};
+ghost use Rattle.fit.specs.Polygons.{Held, TrimmedAt};
+use crate::ends::point_at;
+use crate::points::Point;
 use crate::points::joined_reaches;
-use crate::points::joining;
+use crate::points::through;
 use crate::polygon::Part;
 use values::Line;
 
@@ -18,22 +19,16 @@ pub struct Trimmed {
     pub fast: Line,
 }
 
-// The end of a chain after the points at its end are gone whose line with the point before is at or above an end of range k.
-fn pop_end(
-    times: &[u32],
-    ends: &[i32],
-    flip: bool,
-    chain: &[u32],
-    from: usize,
-    to: usize,
-    k: u32,
-) -> usize
-    requires { ⌜ (Values (now times) (now ends)) × (from < to) × (to ≤ length (now chain)) ⌝ }
-    ensures { λ r. ⌜ PoppedTo (ofChain flip (now (times .entry)) (now (ends .entry)) (now (chain .entry))) (endAt flip (now (times .entry)) (now (ends .entry)) k) from to r ⌝ }
+// The end of a chain after the points at its end are gone whose line with the point before is at or above n.
+fn pop_end(times: &[u32], values: &[i32], flip: bool, from: usize, to: usize, n: Point) -> usize
+    requires { ⌜ (InSpan (now values) from to) × (from < to) × (Long to (chain (now times) (now values))) × (Proper n) ⌝ }
+    ensures { λ r. ⌜ PoppedTo (ofChain flip (chain (now (times .entry)) (now (values .entry)))) (pointOf n) from to r ⌝ }
 {
     let mut m = to;
     while from + 1 < m {
-        if joined_reaches(times, ends, ends, flip, chain[m - 2], chain[m - 1], k) {
+        let a = point_at(times, values, flip, m - 2);
+        let b = point_at(times, values, flip, m - 1);
+        if joined_reaches(a, b, n) {
             m -= 1;
         } else {
             return m;
@@ -42,23 +37,16 @@ fn pop_end(
     m
 }
 
-// The start of a chain after the points at its head are gone whose line with the point after is at or above an end of range k.
-fn drop_head(
-    times: &[u32],
-    ends: &[i32],
-    tops: &[i32],
-    flip: bool,
-    chain: &[u32],
-    from: usize,
-    to: usize,
-    k: u32,
-) -> usize
-    requires { ⌜ (Values (now times) (now ends)) × (Values (now times) (now tops)) × (from < to) × (to ≤ length (now chain)) ⌝ }
-    ensures { λ r. ⌜ DroppedTo (ofChain flip (now (times .entry)) (now (ends .entry)) (now (chain .entry))) (endAt flip (now (times .entry)) (now (tops .entry)) k) from to r ⌝ }
+// The start of a chain after the points at its head are gone whose line with the point after is at or above n.
+fn drop_head(times: &[u32], values: &[i32], flip: bool, from: usize, to: usize, n: Point) -> usize
+    requires { ⌜ (InSpan (now values) from to) × (from < to) × (Long to (chain (now times) (now values))) × (Proper n) ⌝ }
+    ensures { λ r. ⌜ DroppedTo (ofChain flip (chain (now (times .entry)) (now (values .entry)))) (pointOf n) from to r ⌝ }
 {
     let mut h = from;
     while h + 1 < to {
-        if joined_reaches(times, ends, tops, flip, chain[h], chain[h + 1], k) {
+        let a = point_at(times, values, flip, h);
+        let b = point_at(times, values, flip, h + 1);
+        if joined_reaches(a, b, n) {
             h += 1;
         } else {
             return h;
@@ -67,29 +55,30 @@ fn drop_head(
     h
 }
 
-// Both chains shortened at the upper end of range k, where slow is below it and fast above it.
+// Both chains shortened at n, where slow is below it and fast above it.
 pub fn trim(
-    times: &[u32],
-    tops: &[i32],
-    bottoms: &[i32],
+    up_times: &[u32],
+    up_values: &[i32],
+    down_times: &[u32],
+    down_values: &[i32],
     flip: bool,
-    up: &[u32],
-    down: &[u32],
     upper: Part,
     lower: Part,
-    k: u32,
+    n: Point,
 ) -> Trimmed
-    requires { ⌜ (Values (now times) (now tops)) × (Values (now times) (now bottoms)) × (upper .start < upper .end) × (upper .end ≤ length (now up)) × (lower .start < lower .end) × (lower .end ≤ length (now down)) ⌝ }
-    ensures { λ r. ⌜ TrimmedAt flip (now (times .entry)) (now (tops .entry)) (now (bottoms .entry)) (now (up .entry)) (now (down .entry)) upper lower k r ⌝ }
+    requires { ⌜ (Held upper (chain (now «up_times») (now «up_values»))) × (Held lower (chain (now «down_times») (now «down_values»))) × (Proper n) ⌝ }
+    ensures { λ r. ⌜ TrimmedAt flip (chain (now («up_times» .entry)) (now («up_values» .entry))) (chain (now («down_times» .entry)) (now («down_values» .entry))) upper lower (pointOf n) r ⌝ }
 {
     let a = upper.start;
     let b = upper.end;
     let c = lower.start;
     let e = lower.end;
-    let end = pop_end(times, tops, flip, up, a, b, k);
-    let start = drop_head(times, bottoms, tops, flip, down, c, e, k);
-    let slow = joining(times, tops, tops, flip, up[end - 1], k);
-    let fast = joining(times, bottoms, tops, flip, down[start], k);
+    let end = pop_end(up_times, up_values, flip, a, b, n);
+    let start = drop_head(down_times, down_values, flip, c, e, n);
+    let last = point_at(up_times, up_values, flip, end - 1);
+    let first = point_at(down_times, down_values, flip, start);
+    let slow = through(last, n);
+    let fast = through(first, n);
     Trimmed {
         end: end,
         start: start,

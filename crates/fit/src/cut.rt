@@ -1,26 +1,29 @@
 // The polygon of a fit with one more range. The lower side is the upper side of the mirror image, so one cut serves both.
 ghost use mathlib.Core.Path.{_≡_};
-ghost use mathlib.Core.Bool.{false};
-ghost use Prim.Native.Nat.{_<_, _≤_};
-ghost use lib.ListN.{length, getD};
-ghost use lib.IntN.{pos};
-ghost use lib.Signed.{_≤ℤ_};
-ghost use Rattle.drift_laws.specs.EndReads.{Values};
+ghost use Prim.Native.Nat.{_+_};
+ghost use Rattle.integers.specs.Bounds.{Within};
+ghost use Rattle.definitions.specs.Spans.{mostValue};
+ghost use Rattle.trial_laws.specs.Accepted.{ProperRange};
+ghost use Rattle.drift_laws.specs.ChainParts.{chain, Long};
 ghost use Rattle.values.specs.Small.{Bounded};
+ghost use Rattle.fit.specs.RangesByValue.{rangeOf};
 ghost use Rattle.fit.specs.LinesOfEnds.{negD};
 ghost use Rattle.fit.specs.Polygons.{Shape};
 ghost use Rattle.fit.specs.Cuts.{shortenedTo, CutAt, AboveAt, BelowAt, flipped};
-ghost use Rattle.fit.specs.Joins.{PointAt, JoinedAt, StartedAt};
+ghost use Rattle.fit.specs.Joins.{LineJoining, PointAt, JoinedAt, StartedAt};
 use crate::chain::Trimmed;
 use crate::chain::trim;
-use crate::points::above_end;
-use crate::points::has_width;
-use crate::points::height;
-use crate::points::joining;
-use crate::points::reaches_end;
+use crate::ends::End;
+use crate::ends::Range;
+use crate::ends::has_width;
+use crate::ends::high_end;
+use crate::ends::low_end;
+use crate::ends::seen;
+use crate::ends::store;
+use crate::points::above;
+use crate::points::reaches;
 use crate::points::steeper;
-use crate::points::time_at;
-use crate::points::value_at;
+use crate::points::through;
 use crate::polygon::Part;
 use crate::polygon::Polygon;
 use values::Line;
@@ -49,28 +52,37 @@ fn shortened(x: Polygon, t: Trimmed, end: usize) -> Polygon
     }
 }
 
-// The fit's lines at or below the upper end of range k, where slow is below it and fast above it. The end joins the upper chain unless the fit is a mere segment of lines.
+// The fit's lines at or below an upper end, where slow is below it and fast above it. The end joins the upper chain unless the fit is a mere segment of lines.
 fn cut(
-    times: &[u32],
-    tops: &[i32],
-    bottoms: &[i32],
+    up_times: &mut [u32],
+    up_values: &mut [i32],
+    down_times: &[u32],
+    down_values: &[i32],
     flip: bool,
-    up: &mut [u32],
-    down: &[u32],
     x: Polygon,
-    k: u32,
+    e: End,
 ) -> Polygon
-    requires { ⌜ (Values (now times) (now tops)) × (Values (now times) (now bottoms)) × (Shape x k (length (now down))) × (k < length (now up)) ⌝ }
-    ensures { λ r. ⌜ CutAt flip (now (times .entry)) (now (tops .entry)) (now (bottoms .entry)) (now (up .entry)) (now (down .entry)) x k (now (up .exit)) r ⌝ }
+    requires { ⌜ (Shape x (chain (now «up_times») (now «up_values»)) (chain (now «down_times») (now «down_values»))) × (Long (x .upper .end + 1) (chain (now «up_times») (now «up_values»))) × (Within mostValue (e .value)) ⌝ }
+    ensures { λ r. ⌜ CutAt flip (chain (now («up_times» .entry)) (now («up_values» .entry))) (chain (now («down_times» .entry)) (now («down_values» .entry))) x e (chain (now («up_times» .exit)) (now («up_values» .exit))) r ⌝ }
 {
     let upper = x.upper;
     let lower = x.lower;
-    let t = trim(times, tops, bottoms, flip, up, down, upper, lower, k);
+    let n = seen(e, flip);
+    let t = trim(
+        up_times,
+        up_values,
+        down_times,
+        down_values,
+        flip,
+        upper,
+        lower,
+        n,
+    );
     let end = t.end;
     let last = t.slow;
     let fast = t.fast;
     if steeper(last, fast) {
-        up[end] = k;
+        store(up_times, up_values, end, e);
         return shortened(x, t, end + 1);
     }
     shortened(x, t, end)
@@ -90,29 +102,27 @@ fn alone(x: Polygon, l: Line) -> Polygon
     }
 }
 
-// The fit's lines at or below the upper end of range k.
+// The fit's lines at or below an upper end.
 fn cut_above(
-    times: &[u32],
-    tops: &[i32],
-    bottoms: &[i32],
+    up_times: &mut [u32],
+    up_values: &mut [i32],
+    down_times: &[u32],
+    down_values: &[i32],
     flip: bool,
-    up: &mut [u32],
-    down: &[u32],
     x: Polygon,
-    k: u32,
+    e: End,
 ) -> Polygon
-    requires { ⌜ (Values (now times) (now tops)) × (Values (now times) (now bottoms)) × (Shape x k (length (now down))) × (k < length (now up)) ⌝ }
-    ensures { λ r. ⌜ AboveAt flip (now (times .entry)) (now (tops .entry)) (now (bottoms .entry)) (now (up .entry)) (now (down .entry)) x k (now (up .exit)) r ⌝ }
+    requires { ⌜ (Shape x (chain (now «up_times») (now «up_values»)) (chain (now «down_times») (now «down_values»))) × (Long (x .upper .end + 1) (chain (now «up_times») (now «up_values»))) × (Within mostValue (e .value)) ⌝ }
+    ensures { λ r. ⌜ AboveAt flip (chain (now («up_times» .entry)) (now («up_values» .entry))) (chain (now («down_times» .entry)) (now («down_values» .entry))) x e (chain (now («up_times» .exit)) (now («up_values» .exit))) r ⌝ }
 {
     let slow = x.slow;
     let fast = x.fast;
-    let t = time_at(times, k);
-    let u = value_at(times, tops, flip, k);
-    if 0 < height(fast, t, u) {
-        if 0 <= height(slow, t, u) {
+    let n = seen(e, flip);
+    if above(fast, n) {
+        if reaches(slow, n) {
             return alone(x, slow);
         }
-        return cut(times, tops, bottoms, flip, up, down, x, k);
+        return cut(up_times, up_values, down_times, down_values, flip, x, e);
     }
     x
 }
@@ -148,21 +158,20 @@ fn mirrored(x: Polygon) -> Polygon
     }
 }
 
-// The fit's lines at or above the low of range k: the cut above in the mirror.
+// The fit's lines at or above a lower end: the cut above in the mirror.
 fn cut_below(
-    times: &[u32],
-    highs: &[i32],
-    lows: &[i32],
-    up: &[u32],
-    down: &mut [u32],
+    up_times: &[u32],
+    up_values: &[i32],
+    down_times: &mut [u32],
+    down_values: &mut [i32],
     x: Polygon,
-    k: u32,
+    e: End,
 ) -> Polygon
-    requires { ⌜ (Values (now times) (now highs)) × (Values (now times) (now lows)) × (Shape x (length (now up)) k) × (k < length (now down)) ⌝ }
-    ensures { λ r. ⌜ BelowAt (now (times .entry)) (now (highs .entry)) (now (lows .entry)) (now (up .entry)) (now (down .entry)) x k (now (down .exit)) r ⌝ }
+    requires { ⌜ (Shape x (chain (now «up_times») (now «up_values»)) (chain (now «down_times») (now «down_values»))) × (Long (x .lower .end + 1) (chain (now «down_times») (now «down_values»))) × (Within mostValue (e .value)) ⌝ }
+    ensures { λ r. ⌜ BelowAt (chain (now («up_times» .entry)) (now («up_values» .entry))) (chain (now («down_times» .entry)) (now («down_values» .entry))) x e (chain (now («down_times» .exit)) (now («down_values» .exit))) r ⌝ }
 {
     let m = mirrored(x);
-    let r = cut_above(times, lows, highs, true, down, up, m, k);
+    let r = cut_above(down_times, down_values, up_times, up_values, true, m, e);
     mirrored(r)
 }
 
@@ -179,88 +188,111 @@ fn first_entries(n: usize, slow: Line, fast: Line) -> Polygon
     }
 }
 
-// The fit's lines through the one value of range k.
+// The fit's lines through the one value of a range.
 fn cut_to_point(
-    times: &[u32],
-    highs: &[i32],
-    lows: &[i32],
-    up: &mut [u32],
-    down: &mut [u32],
+    up_times: &mut [u32],
+    up_values: &mut [i32],
+    down_times: &mut [u32],
+    down_values: &mut [i32],
     x: Polygon,
-    k: u32,
+    e: End,
 ) -> Polygon
-    requires { ⌜ (Values (now times) (now highs)) × (Values (now times) (now lows)) × (Shape x k k) × (k < length (now up)) × (k < length (now down)) × (getD (now lows) k (pos 0) ≡ getD (now highs) k (pos 0)) ⌝ }
-    ensures { λ r. ⌜ PointAt (now (times .entry)) (now (highs .entry)) (now (lows .entry)) (now (up .entry)) (now (down .entry)) x k (now (up .exit)) (now (down .exit)) r ⌝ }
+    requires { ⌜ (Shape x (chain (now «up_times») (now «up_values»)) (chain (now «down_times») (now «down_values»))) × (Within mostValue (e .value)) ⌝ }
+    ensures { λ r. ⌜ PointAt (chain (now («up_times» .entry)) (now («up_values» .entry))) (chain (now («down_times» .entry)) (now («down_values» .entry))) x e (chain (now («up_times» .exit)) (now («up_values» .exit))) (chain (now («down_times» .exit)) (now («down_values» .exit))) r ⌝ }
 {
     let slow = x.slow;
     let fast = x.fast;
-    if reaches_end(times, highs, false, slow, k) {
+    let n = seen(e, false);
+    if reaches(slow, n) {
         return alone(x, slow);
     }
-    if above_end(times, highs, false, fast, k) {
+    if above(fast, n) {
         let upper = x.upper;
         let lower = x.lower;
-        let t = trim(times, highs, lows, false, up, down, upper, lower, k);
+        let t = trim(
+            up_times,
+            up_values,
+            down_times,
+            down_values,
+            false,
+            upper,
+            lower,
+            n,
+        );
         let least = t.slow;
         let greatest = t.fast;
-        up[0] = k;
-        down[0] = k;
+        store(up_times, up_values, 0, e);
+        store(down_times, down_values, 0, e);
         return first_entries(1, least, greatest);
     }
-    if reaches_end(times, highs, false, fast, k) {
+    if reaches(fast, n) {
         return alone(x, fast);
     }
     x
 }
 
-// The polygon after range k, which joins the run.
+// The polygon after a range that joins the run.
 pub fn join(
-    times: &[u32],
-    highs: &[i32],
-    lows: &[i32],
-    up: &mut [u32],
-    down: &mut [u32],
+    up_times: &mut [u32],
+    up_values: &mut [i32],
+    down_times: &mut [u32],
+    down_values: &mut [i32],
     x: Polygon,
-    k: u32,
+    r: Range,
 ) -> Polygon
-    requires { ⌜ (Values (now times) (now highs)) × (Values (now times) (now lows)) × (Shape x k k) × (k < length (now up)) × (k < length (now down)) × (getD (now lows) k (pos 0) ≤ℤ getD (now highs) k (pos 0)) ⌝ }
-    ensures { λ r. ⌜ JoinedAt (now (times .entry)) (now (highs .entry)) (now (lows .entry)) (now (up .entry)) (now (down .entry)) x k (now (up .exit)) (now (down .exit)) r ⌝ }
+    requires { ⌜ (Shape x (chain (now «up_times») (now «up_values»)) (chain (now «down_times») (now «down_values»))) × (Long (x .upper .end + 1) (chain (now «up_times») (now «up_values»))) × (Long (x .lower .end + 1) (chain (now «down_times») (now «down_values»))) × (ProperRange (rangeOf r)) ⌝ }
+    ensures { λ y. ⌜ JoinedAt (chain (now («up_times» .entry)) (now («up_values» .entry))) (chain (now («down_times» .entry)) (now («down_values» .entry))) x r (chain (now («up_times» .exit)) (now («up_values» .exit))) (chain (now («down_times» .exit)) (now («down_values» .exit))) y ⌝ }
 {
-    if has_width(times, highs, lows, k) {
-        let y = cut_above(times, highs, lows, false, up, down, x, k);
-        return cut_below(times, highs, lows, up, down, y, k);
+    let high = high_end(r);
+    if has_width(r) {
+        let low = low_end(r);
+        let y = cut_above(up_times, up_values, down_times, down_values, false, x, high);
+        return cut_below(up_times, up_values, down_times, down_values, y, low);
     }
-    cut_to_point(times, highs, lows, up, down, x, k)
+    cut_to_point(up_times, up_values, down_times, down_values, x, high)
 }
 
-// The polygon of ranges i and k.
-pub fn begin(
-    times: &[u32],
-    highs: &[i32],
-    lows: &[i32],
-    up: &mut [u32],
-    down: &mut [u32],
-    i: u32,
-    k: u32,
-) -> Polygon
-    requires { ⌜ (Values (now times) (now highs)) × (Values (now times) (now lows)) × (1 ≤ k) × (1 < length (now up)) × (1 < length (now down)) × (getD (now lows) i (pos 0) ≤ℤ getD (now highs) i (pos 0)) × (getD (now lows) k (pos 0) ≤ℤ getD (now highs) k (pos 0)) ⌝ }
-    ensures { λ r. ⌜ StartedAt (now (times .entry)) (now (highs .entry)) (now (lows .entry)) i k (now (up .exit)) (now (down .exit)) r ⌝ }
+// The line through two ends.
+fn joining(a: End, b: End) -> Line
+    requires { ⌜ (Within mostValue (a .value)) × (Within mostValue (b .value)) ⌝ }
+    ensures { λ l. ⌜ LineJoining a b l ⌝ }
 {
-    let slow = joining(times, highs, lows, false, i, k);
-    let fast = joining(times, lows, highs, false, i, k);
-    if has_width(times, highs, lows, i) {
-        if has_width(times, highs, lows, k) {
-            up[0] = i;
-            up[1] = k;
-            down[0] = i;
-            down[1] = k;
+    let n = seen(a, false);
+    let m = seen(b, false);
+    through(n, m)
+}
+
+// The polygon of two ranges.
+pub fn begin(
+    up_times: &mut [u32],
+    up_values: &mut [i32],
+    down_times: &mut [u32],
+    down_values: &mut [i32],
+    r: Range,
+    s: Range,
+) -> Polygon
+    requires { ⌜ (Long 2 (chain (now «up_times») (now «up_values»))) × (Long 2 (chain (now «down_times») (now «down_values»))) × (ProperRange (rangeOf r)) × (ProperRange (rangeOf s)) ⌝ }
+    ensures { λ x. ⌜ StartedAt r s (chain (now («up_times» .exit)) (now («up_values» .exit))) (chain (now («down_times» .exit)) (now («down_values» .exit))) x ⌝ }
+{
+    let high = high_end(r);
+    let low = low_end(r);
+    let next_high = high_end(s);
+    let next_low = low_end(s);
+    let slow = joining(high, next_low);
+    let fast = joining(low, next_high);
+    if has_width(r) {
+        if has_width(s) {
+            store(up_times, up_values, 0, high);
+            store(up_times, up_values, 1, next_high);
+            store(down_times, down_values, 0, low);
+            store(down_times, down_values, 1, next_low);
             return first_entries(2, slow, fast);
         }
-        up[0] = k;
-        down[0] = k;
+        store(up_times, up_values, 0, next_high);
+        store(down_times, down_values, 0, next_low);
         return first_entries(1, slow, fast);
     }
-    up[0] = i;
-    down[0] = i;
+    store(up_times, up_values, 0, high);
+    store(down_times, down_values, 0, low);
     first_entries(1, slow, fast)
 }

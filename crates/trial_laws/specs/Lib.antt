@@ -5,3 +5,4 @@ pub mod RangeLists
 pub mod ListTrial
 pub mod Inside
 pub mod Accepted
+pub mod ByPlace

@@ -22,6 +22,7 @@ use Rattle.definitions.specs.Spans.{mostTime}
 use Rattle.definitions.specs.Times.{Time, none, at}
 use Rattle.definitions.specs.Services.{Service}
 use Rattle.definitions.specs.Lines.{Line, reading}
+use Rattle.definitions.specs.Corners.{reduced}
 use Rattle.definitions.specs.Outlook.{lines}
 use Rattle.lines.specs.OutlookTimes.{reachTime}
 use Rattle.values.specs.Reach.{BelowAt, lookAhead}
@@ -63,5 +64,6 @@ module _ (l : Line) (v : Service) (from : ℕ) (in-time : from ≤ mostTime) whe
           let late-c : mostTime < crossing (l .p) (l .q) (l .d *ℤ v .level) = omega (ints, is-crossing) in
           reach-is (reach-too-late (l .p) (l .q) (l .d *ℤ v .level) from mostTime rises late-c)
 
-pub look-by : {k l k′ l′ : Line} (v : Service) (last : ℕ) {some all : Time} → k ≡ k′ → l ≡ l′ → some ≡ reachTime v last l → all ≡ reachTime v last k → lines k l some all ≡ lookAhead k′ l′ v last
-look-by {k} {l} v last slow fast some all = ap₂ (λ s a. lines k l s a) some all ∙ λ i. lookAhead (slow i) (fast i) v last
+pub look-by : (slow fast : Line) (v : Service) (last : ℕ) {k l : Line} {some all : Time} → k ≡ reduced slow → l ≡ reduced fast → some ≡ reachTime v last fast → all ≡ reachTime v last slow
+    → lines k l some all ≡ lookAhead slow fast v last
+look-by slow fast v last a b c d = λ i. lines (a i) (b i) (c i) (d i)

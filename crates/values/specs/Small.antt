@@ -5,7 +5,7 @@
 --     Small l          l is within them, and d is above 0
 --     Reduced l r      r is l in lowest terms, and within them as l is
 --
--- A line that code makes of two range numbers is bounded whatever these are; that its d is above 0 is known once it is a line of the fit.
+-- A line that code makes of two ends is bounded whatever their order; that its d is above 0 is known once it is a line of the fit.
 -- Assumes nothing.
 use mathlib.Core.Path.{_≡_}
 use Prim.Native.Nat.{ℕ}

@@ -3,7 +3,6 @@ ghost use mathlib.Core.Path.{_≡_};
 ghost use Rattle.integers.specs.Bounds.{Within};
 ghost use Rattle.definitions.specs.Spans.{mostValue};
 ghost use Rattle.definitions.specs.Lines.{sideAt};
-ghost use Rattle.definitions.specs.Corners.{reduced as reducedOf};
 ghost use Rattle.lines.specs.OutlookTimes.{reachTime};
 ghost use Rattle.values.specs.Meanings.{lineOf, serviceOf, sideOf, timeOf, outlookOf};
 ghost use Rattle.values.specs.Small.{Small};
@@ -66,15 +65,15 @@ fn reach_time(l: Line, v: Service, from: u32) -> Time
     }
 }
 
-// Some line of the fit reaches the level when the fast one does, and all when the slow one does.
+// Some line of the fit reaches the level when the fast one does, and all when the slow one does: found from the lines as they are, so that this need not wait for their lowest terms.
 pub fn outlook_of(slow: Line, fast: Line, v: Service, last: u32) -> Outlook
     requires { ⌜ (Small slow) × (Small fast) × (Within mostValue (v .level)) ⌝ }
-    ensures { λ r. ⌜ outlookOf r ≡ lookAhead (reducedOf (lineOf slow)) (reducedOf (lineOf fast)) (serviceOf v) last ⌝ }
+    ensures { λ r. ⌜ outlookOf r ≡ lookAhead (lineOf slow) (lineOf fast) (serviceOf v) last ⌝ }
 {
+    let some = reach_time(fast, v, last);
+    let all = reach_time(slow, v, last);
     let s = reduced(slow);
     let f = reduced(fast);
-    let some = reach_time(f, v, last);
-    let all = reach_time(s, v, last);
     Outlook::Lines {
         slow: s,
         fast: f,

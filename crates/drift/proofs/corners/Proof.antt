@@ -16,9 +16,7 @@ use Rattle.trial_laws.specs.Rows.{refusal-zero, refusal-above}
 use Rattle.trial_laws.specs.ListTrial.{trialRows, trial-numbered}
 use Rattle.trial_laws.specs.Inside.{count-inside}
 use Rattle.trial_laws.specs.Accepted.{AcceptedLists, trial-zero}
-use Rattle.drift_laws.specs.EndReads.{accepted-highs, accepted-lows}
 use Rattle.drift_laws.specs.LineRows.{RowRoom}
-use Rattle.fit.specs.Polygons.{shape-more}
 use Rattle.corner_list.specs.RunCorners.{proper-corners, points-few, run-corners}
 use Rattle.drift.specs.CornersPromise.{threeLengths}
 use Rattle.drift.specs.CornersPromiseLaws.{rows-refused, count-refused, rows-passed, room-tested, promise-refused, promise-open, promise-corners}
@@ -105,8 +103,56 @@ module _ (c : tie.Else2) where
   few : start .args .k ≤ mostRanges
   few = omega (arith, counted .1, good .few)
 
-cast-end : tie.Need-cast-end
-cast-end c = omega (arith, few c)
+last-run-requires : tie.Need-last-run-requires
+last-run-requires c κs = let e = c .before .before .before .before in (good e, counted e .0, counted e .1, record { times-long = few e; values-long = few e }, record { times-long = few e; values-long = few e })
+
+sub-if3 : tie.Need-sub-if3
+sub-if3 c = le-of-lt (c .before .before .before .before .last-run .ensures .begins)
+
+returns-3 : tie.Need-returns-3
+returns-3 c =
+    let e = c .before .before .before .before .before .before .before .before .before .before in
+    let s = start e in
+    let z = c .before .before .before .before .before .last-run .ensures in
+    promise-open (s .args .k) (lists s) (s .args .ps .now) (s .args .qs .now) (s .args .ds .now) (passed e) (good e) (counted e .1) z (omega (arith, c .if3 .taken, z .begins))
+
+-- ---- where the corners are listed
+
+two-ranges : (c : tie.Else3) → c .before .before .before .before .before .last-run .result .start + 2 ≤ start (c .before .before .before .before .before .before .before .before .before .before) .args .k
+two-ranges c = omega (arith, c .if3 .left)
+
+list-corners-requires : tie.Need-list-corners-requires
+list-corners-requires c κs =
+    let e = c .before .before .before .before .before .before .before .before .before .before .before .before .before .before .before .before .before .before in
+    let found = c .before .before .before .before .before .before .before .before .before .before .before .before .before .last-run in
+    let two = two-ranges (c .before .before .before .before .before .before .before .before) in
+    let k = start e .args .k in
+    let z = found .ensures .polygon-is two in
+    let few-points = points-few (good e) (found .result .start) k two (counted e .1) (found .ensures .line) z in
+    let roomy = room (tried e) (zero e) in (
+      z .shape,
+      proper-corners (good e) (found .result .start) k two (counted e .1) (found .ensures .line) z,
+      record { ps-long = omega (arith, few e, few-points, roomy .ps-long); qs-long = omega (arith, few e, few-points, roomy .qs-long); ds-long = omega (arith, few e, few-points, roomy .ds-long) },
+    )
+
+same-length : tie.Need-same-length
+same-length c = c .before .before .before .list-corners .kept .1 .1 .1 .1 .1 .0
+
+same-length-2 : tie.Need-same-length-2
+same-length-2 c = c .before .before .before .list-corners .kept .1 .1 .1 .1 .1 .1 .0
+
+same-length-3 : tie.Need-same-length-3
+same-length-3 c = c .before .before .before .list-corners .kept .1 .1 .1 .1 .1 .1 .1 .0
+
+returns-4 : tie.Need-returns-4
+returns-4 c =
+    let e = c .before .before .before .before .before .before .before .before .before .before .before .before .before .before .before .before .before .before .before .before .before .before in
+    let s = start e in
+    let found = c .before .before .before .before .before .before .before .before .before .before .before .before .before .before .before .before .before .last-run in
+    let two = two-ranges (c .before .before .before .before .before .before .before .before .before .before .before .before) in
+    let listed = c .before .before .before .list-corners in
+    promise-corners (s .args .k) (lists s) (s .args .ps .now) (s .args .qs .now) (s .args .ds .now) (passed e) (good e) (counted e .1) (found .ensures) two (listed .result)
+    (run-corners (good e) (found .result .start) (s .args .k) two (counted e .1) (found .ensures .line) (found .ensures .polygon-is two) (listed .ensures))
 
 slice-aggregate-last-run : tie.Need-slice-aggregate-last-run
 slice-aggregate-last-run c = search needs
@@ -114,18 +160,11 @@ slice-aggregate-last-run c = search needs
 slice-aggregate-last-run-2 : tie.Need-slice-aggregate-last-run-2
 slice-aggregate-last-run-2 c = search needs
 
-last-run-requires : tie.Need-last-run-requires
-last-run-requires c κs = let e = c .before .before in (good e, counted e .0, counted e .1, few e, few e)
+slice-aggregate-last-run-3 : tie.Need-slice-aggregate-last-run-3
+slice-aggregate-last-run-3 c = search needs
 
-sub-if3 : tie.Need-sub-if3
-sub-if3 c = le-of-lt (c .before .before .last-run .ensures .begins)
-
-returns-3 : tie.Need-returns-3
-returns-3 c =
-    let e = c .before .before .before .before .before .before in
-    let s = start e in
-    let z = c .before .before .before .last-run .ensures in
-    promise-open (s .args .k) (lists s) (s .args .ps .now) (s .args .qs .now) (s .args .ds .now) (passed e) (good e) (counted e .1) z (omega (arith, c .if3 .taken, z .begins))
+slice-aggregate-last-run-4 : tie.Need-slice-aggregate-last-run-4
+slice-aggregate-last-run-4 c = search needs
 
 slice-aggregate-list-corners : tie.Need-slice-aggregate-list-corners
 slice-aggregate-list-corners c = search needs
@@ -133,45 +172,11 @@ slice-aggregate-list-corners c = search needs
 slice-aggregate-list-corners-2 : tie.Need-slice-aggregate-list-corners-2
 slice-aggregate-list-corners-2 c = search needs
 
--- ---- where the corners are listed
+slice-aggregate-list-corners-3 : tie.Need-slice-aggregate-list-corners-3
+slice-aggregate-list-corners-3 c = search needs
 
-two-ranges : (c : tie.Else3) → c .before .before .before .last-run .result .start + 2 ≤ start (c .before .before .before .before .before .before) .args .k
-two-ranges c = omega (arith, c .if3 .left)
-
-list-corners-requires : tie.Need-list-corners-requires
-list-corners-requires c κs =
-    let e = c .before .before .before .before .before .before .before .before .before .before .before .before in
-    let found = c .before .before .before .before .before .before .before .before .before .last-run in
-    let two = two-ranges (c .before .before .before .before .before .before) in
-    let k = start e .args .k in
-    let z = found .ensures .polygon-is two in
-    let few-points = points-few (good e) (found .result .start) k two (counted e .1) (found .ensures .line) z in
-    let roomy = room (tried e) (zero e) in (
-      accepted-highs (good e),
-      accepted-lows (good e),
-      shape-more (z .shape) (omega (arith, few e, found .kept .1 .1 .1 .0)) (omega (arith, few e, found .kept .1 .1 .1 .1 .0)),
-      proper-corners (good e) (found .result .start) k two (counted e .1) (found .ensures .line) z,
-      record { ps-long = omega (arith, few e, few-points, roomy .ps-long); qs-long = omega (arith, few e, few-points, roomy .qs-long); ds-long = omega (arith, few e, few-points, roomy .ds-long) },
-    )
-
-same-length : tie.Need-same-length
-same-length c = c .before .before .before .list-corners .kept .1 .1 .1 .1 .1 .1 .0
-
-same-length-2 : tie.Need-same-length-2
-same-length-2 c = c .before .before .before .list-corners .kept .1 .1 .1 .1 .1 .1 .1 .0
-
-same-length-3 : tie.Need-same-length-3
-same-length-3 c = c .before .before .before .list-corners .kept .1 .1 .1 .1 .1 .1 .1 .1 .0
-
-returns-4 : tie.Need-returns-4
-returns-4 c =
-    let e = c .before .before .before .before .before .before .before .before .before .before .before .before .before .before .before .before in
-    let s = start e in
-    let found = c .before .before .before .before .before .before .before .before .before .before .before .before .before .last-run in
-    let two = two-ranges (c .before .before .before .before .before .before .before .before .before .before) in
-    let listed = c .before .before .before .list-corners in
-    promise-corners (s .args .k) (lists s) (s .args .ps .now) (s .args .qs .now) (s .args .ds .now) (passed e) (good e) (counted e .1) (found .ensures) two (listed .result)
-    (run-corners (good e) (found .result .start) (s .args .k) two (counted e .1) (found .ensures .line) (found .ensures .polygon-is two) (listed .ensures))
+slice-aggregate-list-corners-4 : tie.Need-slice-aggregate-list-corners-4
+slice-aggregate-list-corners-4 c = search needs
 
 pub corners-spec : {M : Type 1} → statement M
 corners-spec =
@@ -182,14 +187,17 @@ corners-spec =
     returns
     count-outside-requires
     returns-2
-    cast-end
     slice-aggregate-last-run
     slice-aggregate-last-run-2
+    slice-aggregate-last-run-3
+    slice-aggregate-last-run-4
     last-run-requires
     sub-if3
     returns-3
     slice-aggregate-list-corners
     slice-aggregate-list-corners-2
+    slice-aggregate-list-corners-3
+    slice-aggregate-list-corners-4
     list-corners-requires
     same-length
     same-length-2

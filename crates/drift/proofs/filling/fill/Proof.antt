@@ -22,11 +22,11 @@ use Rattle.drift.proofs.filling.fill.Statement.{statement}
 use Rattle.drift.proofs.filling.fill.Tie as tie
 
 abbrev Inv-loop : tie.InvT-loop
-Inv-loop v times lows highs first-times₀ last-times₀ counts₀ slow-ps₀ slow-qs₀ slow-ds₀ fast-ps₀ fast-qs₀ fast-ds₀ somes₀ alls₀ up₀ down₀ start₀ count₀ first-times last-times counts slow-ps slow-qs slow-ds fast-ps fast-qs fast-ds somes alls up down start count =
-    Turn (serviceOf v) (record { times = times; lows = lows; highs = highs }) (columns first-times₀ last-times₀ counts₀ slow-ps₀ slow-qs₀ slow-ds₀ fast-ps₀ fast-qs₀ fast-ds₀ somes₀ alls₀) (columns first-times last-times counts slow-ps slow-qs slow-ds fast-ps fast-qs fast-ds somes alls) start count × (length up ≡ mostRanges) × (length down ≡ mostRanges)
+Inv-loop v times lows highs first-times₀ last-times₀ counts₀ slow-ps₀ slow-qs₀ slow-ds₀ fast-ps₀ fast-qs₀ fast-ds₀ somes₀ alls₀ up-times₀ up-values₀ down-times₀ down-values₀ start₀ count₀ first-times last-times counts slow-ps slow-qs slow-ds fast-ps fast-qs fast-ds somes alls up-times up-values down-times down-values start count =
+    Turn (serviceOf v) (record { times = times; lows = lows; highs = highs }) (columns first-times₀ last-times₀ counts₀ slow-ps₀ slow-qs₀ slow-ds₀ fast-ps₀ fast-qs₀ fast-ds₀ somes₀ alls₀) (columns first-times last-times counts slow-ps slow-qs slow-ds fast-ps fast-qs fast-ds somes alls) start count × (length up-times ≡ mostRanges) × (length up-values ≡ mostRanges) × (length down-times ≡ mostRanges) × (length down-values ≡ mostRanges)
 
 abbrev μ-loop : tie.MeasureT-loop
-μ-loop v times lows highs first-times₀ last-times₀ counts₀ slow-ps₀ slow-qs₀ slow-ds₀ fast-ps₀ fast-qs₀ fast-ds₀ somes₀ alls₀ up₀ down₀ start₀ count₀ first-times last-times counts slow-ps slow-qs slow-ds fast-ps fast-qs fast-ds somes alls up down start count =
+μ-loop v times lows highs first-times₀ last-times₀ counts₀ slow-ps₀ slow-qs₀ slow-ds₀ fast-ps₀ fast-qs₀ fast-ds₀ somes₀ alls₀ up-times₀ up-values₀ down-times₀ down-values₀ start₀ count₀ first-times last-times counts slow-ps slow-qs slow-ds fast-ps fast-qs fast-ds somes alls up-times up-values down-times down-values start count =
     length times - start
 
 -- ---- at entry
@@ -47,7 +47,7 @@ ready : (c : tie.Start Inv-loop μ-loop) → FillReady (service c) (lists c) (ol
 ready c = c .pre
 
 loop-holds : tie.Need-loop-holds Inv-loop μ-loop
-loop-holds c = let s = c .before .before .before .before .before .before in (record { within = omega arith; left = refl; stored = first-none (all s) (old s) }, refl, refl)
+loop-holds c = let s = c .before .before .before .before .before .before in (record { within = omega arith; left = refl; stored = first-none (all s) (old s) }, refl, refl, refl, refl)
 
 slice-aggregate-segment-from : tie.Need-slice-aggregate-segment-from Inv-loop μ-loop
 slice-aggregate-segment-from c = sym (c .before .before .loop .inv .1)
@@ -55,15 +55,22 @@ slice-aggregate-segment-from c = sym (c .before .before .loop .inv .1)
 slice-aggregate-segment-from-2 : tie.Need-slice-aggregate-segment-from-2 Inv-loop μ-loop
 slice-aggregate-segment-from-2 c = sym (c .before .before .before .loop .inv .2)
 
+slice-aggregate-segment-from-3 : tie.Need-slice-aggregate-segment-from-3 Inv-loop μ-loop
+slice-aggregate-segment-from-3 c = sym (c .before .before .before .before .loop .inv .3)
+
+slice-aggregate-segment-from-4 : tie.Need-slice-aggregate-segment-from-4 Inv-loop μ-loop
+slice-aggregate-segment-from-4 c = sym (c .before .before .before .before .before .loop .inv .4)
+
 segment-from-requires : tie.Need-segment-from-requires Inv-loop μ-loop
 segment-from-requires c κs =
-    let s = c .before .before .before .before .before .before .before .before .before .before in
+    let s = c .before .before .before .before .before .before .before .before .before .before .before .before in
     let few = s .pre .tried .lists-accepted .few in
-    let kept = c .before .before .before .loop .inv in
+    let kept = c .before .before .before .before .before .loop .inv in
     record {
       tried = ready s .tried;
-      chains = record { up-room = omega (arith, few, kept .1); down-room = omega (arith, few, kept .2) };
-      inside = c .before .before .loop-test .taken;
+      up-room = record { times-long = omega (arith, few, kept .1); values-long = omega (arith, few, kept .2) };
+      down-room = record { times-long = omega (arith, few, kept .3); values-long = omega (arith, few, kept .4) };
+      inside = c .before .before .before .before .loop-test .taken;
     }
 
 row-of-requires : tie.Need-row-of-requires Inv-loop μ-loop
@@ -72,62 +79,62 @@ row-of-requires c κs = tt
 -- ---- a turn, where its segment is known
 
 abbrev entry : tie.After-segment-from Inv-loop μ-loop → tie.Start Inv-loop μ-loop
-entry c = c .before .before .before .before .before .before .before .before .before .before .before
+entry c = c .before .before .before .before .before .before .before .before .before .before .before .before .before
 
 abbrev now : tie.After-segment-from Inv-loop μ-loop → Columns
-now c = columns (c .before .before .before .before .loop .first-times) (c .before .before .before .before .loop .last-times) (c .before .before .before .before .loop .counts) (c .before .before .before .before .loop .slow-ps) (c .before .before .before .before .loop .slow-qs) (c .before .before .before .before .loop .slow-ds) (c .before .before .before .before .loop .fast-ps) (c .before .before .before .before .loop .fast-qs) (c .before .before .before .before .loop .fast-ds) (c .before .before .before .before .loop .somes) (c .before .before .before .before .loop .alls)
+now c = columns (c .before .before .before .before .before .before .loop .first-times) (c .before .before .before .before .before .before .loop .last-times) (c .before .before .before .before .before .before .loop .counts) (c .before .before .before .before .before .before .loop .slow-ps) (c .before .before .before .before .before .before .loop .slow-qs) (c .before .before .before .before .before .before .loop .slow-ds) (c .before .before .before .before .before .before .loop .fast-ps) (c .before .before .before .before .before .before .loop .fast-qs) (c .before .before .before .before .before .before .loop .fast-ds) (c .before .before .before .before .before .before .loop .somes) (c .before .before .before .before .before .before .loop .alls)
 
-stored : (c : tie.After-segment-from Inv-loop μ-loop) → FirstStored (c .before .before .before .before .loop .count) (all (entry c)) (old (entry c)) (now c)
-stored c = c .before .before .before .before .loop .inv .0 .stored
+stored : (c : tie.After-segment-from Inv-loop μ-loop) → FirstStored (c .before .before .before .before .before .before .loop .count) (all (entry c)) (old (entry c)) (now c)
+stored c = c .before .before .before .before .before .before .loop .inv .0 .stored
 
 room : (c : tie.After-segment-from Inv-loop μ-loop) → Room (length (all (entry c))) (old (entry c))
 room c = ready (entry c) .room
 
-next : (c : tie.After-segment-from Inv-loop μ-loop) → drop (c .before .before .before .before .loop .count) (all (entry c)) ≡ segmentOf (c .segment-from .result) ∷ segmentsOf (service (entry c)) (drop (c .before .before .before .before .loop .start + c .segment-from .result .count) (rangesOf (lists (entry c))))
+next : (c : tie.After-segment-from Inv-loop μ-loop) → drop (c .before .before .before .before .before .before .loop .count) (all (entry c)) ≡ segmentOf (c .segment-from .result) ∷ segmentsOf (service (entry c)) (drop (c .before .before .before .before .before .before .loop .start + c .segment-from .result .count) (rangesOf (lists (entry c))))
 unfolding segmentOf
-next c = c .before .before .before .before .loop .inv .0 .left ∙ c .segment-from .ensures .next
+next c = c .before .before .before .before .before .before .loop .inv .0 .left ∙ c .segment-from .ensures .next
 
 cast-ranges : tie.Need-cast-ranges Inv-loop μ-loop
 unfolding segmentOf
-cast-ranges c = let t = c .before .before .before in record { fits = omega (arith, t .segment-from .ensures .within, entry t .good .1 .0 .0) }
+cast-ranges c = let t = c .before .before .before .before .before in record { fits = omega (arith, t .segment-from .ensures .within, entry t .good .1 .0 .0) }
 
-roomy : (c : tie.After-segment-from Inv-loop μ-loop) → Room (suc (c .before .before .before .before .loop .count)) (now c)
+roomy : (c : tie.After-segment-from Inv-loop μ-loop) → Room (suc (c .before .before .before .before .before .before .loop .count)) (now c)
 roomy c = first-room (stored c) (room c) (next c)
 
 -- a place of an entry, in bytes
-fits-4 : (c : tie.After-segment-from Inv-loop μ-loop) → Fits w64 (c .before .before .before .before .loop .count * 4)
+fits-4 : (c : tie.After-segment-from Inv-loop μ-loop) → Fits w64 (c .before .before .before .before .before .before .loop .count * 4)
 fits-4 c = scaled-fits _ _ 4 (omega (arith, roomy c .first-times, first-lengths (stored c) (room c) .first-times)) (entry c .good .1 .1 .1 .1 .0 .1)
 
-fits-8 : (c : tie.After-segment-from Inv-loop μ-loop) → Fits w64 (c .before .before .before .before .loop .count * 8)
+fits-8 : (c : tie.After-segment-from Inv-loop μ-loop) → Fits w64 (c .before .before .before .before .before .before .loop .count * 8)
 fits-8 c = scaled-fits _ _ 8 (omega (arith, roomy c .somes, first-lengths (stored c) (room c) .somes)) (entry c .good .1 .1 .1 .1 .1 .1 .1 .1 .1 .1 .1 .1 .1 .0 .1)
 
 mul-first-times : tie.Need-mul-first-times Inv-loop μ-loop
-mul-first-times c = fits-4 (c .before .before .before .before)
+mul-first-times c = fits-4 (c .before .before .before .before .before .before)
 
 slice-write-first-times : tie.Need-slice-write-first-times Inv-loop μ-loop
-slice-write-first-times c = roomy (c .before .before .before .before) .first-times
+slice-write-first-times c = roomy (c .before .before .before .before .before .before) .first-times
 
 mul-last-times : tie.Need-mul-last-times Inv-loop μ-loop
-mul-last-times c = fits-4 (c .before .before .before .before)
+mul-last-times c = fits-4 (c .before .before .before .before .before .before)
 
 slice-write-last-times : tie.Need-slice-write-last-times Inv-loop μ-loop
-slice-write-last-times c = roomy (c .before .before .before .before) .last-times
+slice-write-last-times c = roomy (c .before .before .before .before .before .before) .last-times
 
 mul-counts : tie.Need-mul-counts Inv-loop μ-loop
-mul-counts c = fits-4 (c .before .before .before .before)
+mul-counts c = fits-4 (c .before .before .before .before .before .before)
 
 slice-write-counts : tie.Need-slice-write-counts Inv-loop μ-loop
-slice-write-counts c = roomy (c .before .before .before .before) .counts
+slice-write-counts c = roomy (c .before .before .before .before .before .before) .counts
 
 -- where all is stored
 abbrev turn : tie.After-fast-ds Inv-loop μ-loop → tie.After-segment-from Inv-loop μ-loop
-turn c = c .before .before .before .before .before .before .before .before .before .before .before .before .before .before .before .before .before .before .before .before
+turn c = c .before .before .before .before .before .before .before .before .before .before .before .before .before .before .before .before .before .before .before .before .before .before
 
 store-line-requires : tie.Need-store-line-requires Inv-loop μ-loop
-store-line-requires c κs = let r = roomy (c .before .before .before .before .before .before .before .before) in record { ps-long = r .slow-ps; qs-long = r .slow-qs; ds-long = r .slow-ds }
+store-line-requires c κs = let r = roomy (c .before .before .before .before .before .before .before .before .before .before) in record { ps-long = r .slow-ps; qs-long = r .slow-qs; ds-long = r .slow-ds }
 
 store-line-requires-2 : tie.Need-store-line-requires-2 Inv-loop μ-loop
-store-line-requires-2 c κs = let r = roomy (c .before .before .before .before .before .before .before .before .before .before .before .before .before .before .before .before) in record { ps-long = r .fast-ps; qs-long = r .fast-qs; ds-long = r .fast-ds }
+store-line-requires-2 c κs = let r = roomy (c .before .before .before .before .before .before .before .before .before .before .before .before .before .before .before .before .before .before) in record { ps-long = r .fast-ps; qs-long = r .fast-qs; ds-long = r .fast-ds }
 
 mul-somes : tie.Need-mul-somes Inv-loop μ-loop
 mul-somes c = fits-8 (turn c)
@@ -156,7 +163,8 @@ loop-again : tie.Need-loop-again Inv-loop μ-loop
 unfolding segmentOf
 loop-again c =
     let t = turn c in
-    let lengths = t .before .before .before .before .loop .inv in
+    let lengths = t .before .before .before .before .before .before .loop .inv in
+    let kept = t .segment-from .kept .1 .1 .1 .1 in
     let row = c .before .before .before .before .before .before .before .before .before .before .before .before .before .before .before .before .row-of .ensures in
     let slow = c .before .before .before .before .before .before .before .before .before .before .before .store-line .ensures in
     let fast = c .before .before .before .store-line2 .ensures in (
@@ -181,8 +189,10 @@ loop-again c =
             }
             ));
       },
-      t .segment-from .kept .1 .1 .1 .1 .0 ∙ lengths .1,
-      t .segment-from .kept .1 .1 .1 .1 .1 .0 ∙ lengths .2,
+      kept .0 ∙ lengths .1,
+      kept .1 .0 ∙ lengths .2,
+      kept .1 .1 .0 ∙ lengths .3,
+      kept .1 .1 .1 .0 ∙ lengths .4,
     )
 
 -- ---- after the last turn
@@ -250,6 +260,8 @@ fill-spec =
     loop-holds
     slice-aggregate-segment-from
     slice-aggregate-segment-from-2
+    slice-aggregate-segment-from-3
+    slice-aggregate-segment-from-4
     segment-from-requires
     cast-ranges
     row-of-requires

@@ -2,19 +2,18 @@
 use Prim.Native.Nat.{_<_, _≤_, _-_}
 use native.Mathlib.Omega.{arith}
 use mathlib.Core.Path.{_≡_, refl, _∙_}
-use borrow.Author.Needs.{needs}
 use Rattle.chains.specs.Pop.{trim}
-use Rattle.drift_laws.specs.RangeEnds.{endAt}
-use Rattle.drift_laws.specs.ChainParts.{stack, ofChain, popped, pop-step, pop-stop, pop-one}
+use Rattle.drift_laws.specs.ChainParts.{chain, stack, ofChain, popped, pop-step, pop-stop, pop-one}
+use Rattle.fit.specs.LinesOfEnds.{pointOf, joined-told}
 use Rattle.fit.proofs.chain.pop_end.Statement.{statement}
 use Rattle.fit.proofs.chain.pop_end.Tie as tie
 
 abbrev Inv-loop : tie.InvT-loop
-Inv-loop times ends flip chain from to k m₀ m =
-    (from < m) × (m ≤ to) × (trim (endAt flip times ends k) (stack (ofChain flip times ends chain) from (m - from)) ≡ trim (endAt flip times ends k) (stack (ofChain flip times ends chain) from (to - from)))
+Inv-loop times values flip from to n m₀ m =
+    (from < m) × (m ≤ to) × (trim (pointOf n) (stack (ofChain flip (chain times values)) from (m - from)) ≡ trim (pointOf n) (stack (ofChain flip (chain times values)) from (to - from)))
 
 abbrev μ-loop : tie.MeasureT-loop
-μ-loop times ends flip chain from to k m₀ m = m
+μ-loop times values flip from to n m₀ m = m
 
 loop-holds : tie.Need-loop-holds Inv-loop μ-loop
 loop-holds c = (omega arith, omega arith, refl)
@@ -22,26 +21,20 @@ loop-holds c = (omega arith, omega arith, refl)
 add-loop : tie.Need-add-loop Inv-loop μ-loop
 add-loop c = omega arith
 
-sub-joined-reaches : tie.Need-sub-joined-reaches Inv-loop μ-loop
-sub-joined-reaches c = omega arith
+sub-point-at : tie.Need-sub-point-at Inv-loop μ-loop
+sub-point-at c = omega arith
 
-mul-joined-reaches : tie.Need-mul-joined-reaches Inv-loop μ-loop
-mul-joined-reaches c = search needs
+point-at-requires : tie.Need-point-at-requires Inv-loop μ-loop
+point-at-requires c κs = let P = c .before .before .before .pre in (record { times-long = omega (arith, P .2 .times-long); values-long = omega (arith, P .2 .values-long) }, P .0 .each _ (omega arith) (omega arith))
 
-shared-slice-read-joined-reaches : tie.Need-shared-slice-read-joined-reaches Inv-loop μ-loop
-shared-slice-read-joined-reaches c = omega arith
+sub-point-at-2 : tie.Need-sub-point-at-2 Inv-loop μ-loop
+sub-point-at-2 c = omega arith
 
-sub-joined-reaches-2 : tie.Need-sub-joined-reaches-2 Inv-loop μ-loop
-sub-joined-reaches-2 c = omega arith
-
-mul-joined-reaches-2 : tie.Need-mul-joined-reaches-2 Inv-loop μ-loop
-mul-joined-reaches-2 c = search needs
-
-shared-slice-read-joined-reaches-2 : tie.Need-shared-slice-read-joined-reaches-2 Inv-loop μ-loop
-shared-slice-read-joined-reaches-2 c = omega arith
+point-at-requires-2 : tie.Need-point-at-requires-2 Inv-loop μ-loop
+point-at-requires-2 c κs = let P = c .before .before .before .before .pre in (record { times-long = omega (arith, P .2 .times-long); values-long = omega (arith, P .2 .values-long) }, P .0 .each _ (omega arith) (omega arith))
 
 joined-reaches-requires : tie.Need-joined-reaches-requires Inv-loop μ-loop
-joined-reaches-requires c κs = search needs
+joined-reaches-requires c κs = (c .before .point-at .ensures .proper, c .point-at2 .ensures .proper, c .before .before .before .before .before .pre .3)
 
 sub-m : tie.Need-sub-m Inv-loop μ-loop
 sub-m c = omega arith
@@ -51,27 +44,24 @@ loop-less c = omega arith
 
 loop-again : tie.Need-loop-again Inv-loop μ-loop
 loop-again c =
-    let A = c .before .before .before .before .before .before .before .before .args in
+    let A = c .before .before .before .before .before .before .before .args in
     let L = c .before .before .before .before .before .loop in
-    let f = ofChain (A .flip) (A .times .now) (A .ends .now) (A .chain .now) in
-    let N = endAt (A .flip) (A .times .now) (A .ends .now) (A .k) in
-    (omega arith, omega arith, pop-step f N (A .from) (L .m) (omega arith) (c .before .joined-reaches .ensures) (c .if1 .taken) ∙ L .inv .2)
+    let f = ofChain (A .flip) (chain (A .times .now) (A .values .now)) in
+    (omega arith, omega arith, pop-step f (pointOf (A .n)) (A .from) (L .m) (omega arith) (joined-told (A .n) (c .before .before .before .point-at .ensures) (c .before .before .point-at2 .ensures) (c .before .joined-reaches .ensures)) (c .if1 .taken) ∙ L .inv .2)
 
 returns : tie.Need-returns Inv-loop μ-loop
 returns c =
-    let A = c .before .before .before .before .before .before .before .before .args in
+    let A = c .before .before .before .before .before .before .before .args in
     let L = c .before .before .before .before .before .loop in
-    let f = ofChain (A .flip) (A .times .now) (A .ends .now) (A .chain .now) in
-    let N = endAt (A .flip) (A .times .now) (A .ends .now) (A .k) in
-    record { from = omega arith; to = omega arith; is = popped f N (A .from) (L .m - A .from) (A .to - A .from) (pop-stop f N (A .from) (L .m) (omega arith) (c .before .joined-reaches .ensures) (c .if1 .left) ∙ L .inv .2) }
+    let f = ofChain (A .flip) (chain (A .times .now) (A .values .now)) in
+    record { from = omega arith; to = omega arith; is = popped f (pointOf (A .n)) (A .from) (L .m - A .from) (A .to - A .from) (pop-stop f (pointOf (A .n)) (A .from) (L .m) (omega arith) (joined-told (A .n) (c .before .before .before .point-at .ensures) (c .before .before .point-at2 .ensures) (c .before .joined-reaches .ensures)) (c .if1 .left) ∙ L .inv .2) }
 
 returns-2 : tie.Need-returns-2 Inv-loop μ-loop
 returns-2 c =
-    let A = c .before .before .before .before .args in
+    let A = c .before .before .before .args in
     let L = c .before .loop in
-    let f = ofChain (A .flip) (A .times .now) (A .ends .now) (A .chain .now) in
-    let N = endAt (A .flip) (A .times .now) (A .ends .now) (A .k) in
-    record { from = omega arith; to = omega arith; is = popped f N (A .from) (L .m - A .from) (A .to - A .from) (pop-one f N (A .from) (L .m) (omega arith) (omega arith) ∙ L .inv .2) }
+    let f = ofChain (A .flip) (chain (A .times .now) (A .values .now)) in
+    record { from = omega arith; to = omega arith; is = popped f (pointOf (A .n)) (A .from) (L .m - A .from) (A .to - A .from) (pop-one f (pointOf (A .n)) (A .from) (L .m) (omega arith) (omega arith) ∙ L .inv .2) }
 
 pub pop-end-spec : {M : Type 1} → statement M
 pop-end-spec =
@@ -81,12 +71,10 @@ pop-end-spec =
     μ-loop
     loop-holds
     add-loop
-    sub-joined-reaches
-    mul-joined-reaches
-    shared-slice-read-joined-reaches
-    sub-joined-reaches-2
-    mul-joined-reaches-2
-    shared-slice-read-joined-reaches-2
+    sub-point-at
+    point-at-requires
+    sub-point-at-2
+    point-at-requires-2
     joined-reaches-requires
     sub-m
     loop-less

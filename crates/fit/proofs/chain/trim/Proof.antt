@@ -1,39 +1,38 @@
 -- `fit::chain::trim` meets its contract. Assumes nothing.
-use borrow.Author.Needs.{scaled-fits}
 use native.Mathlib.Omega.{arith}
 use Rattle.fit.specs.Polygons.{trimmed-of}
 use Rattle.fit.proofs.chain.trim.Statement.{statement}
 use Rattle.fit.proofs.chain.trim.Tie as tie
 
 pop-end-requires : tie.Need-pop-end-requires
-pop-end-requires c κs = let P = c .before .before .before .pre in (P .0, P .2, P .3)
+pop-end-requires c κs = let P = c .before .before .pre in (P .0 .in-span, P .0 .some, P .0 .long, P .2)
 
 drop-head-requires : tie.Need-drop-head-requires
-drop-head-requires c κs = let P = c .before .before .before .before .pre in (P .1, P .0, P .4, P .5)
+drop-head-requires c κs = let P = c .before .before .before .pre in (P .1 .in-span, P .1 .some, P .1 .long, P .2)
 
-sub-joining : tie.Need-sub-joining
-sub-joining c = omega (arith, c .before .pop-end .ensures .from)
+sub-point-at : tie.Need-sub-point-at
+sub-point-at c = omega (arith, c .before .pop-end .ensures .from)
 
-mul-joining : tie.Need-mul-joining
-mul-joining c = scaled-fits _ _ 4 (omega (arith, c .before .pop-end .ensures .to, c .before .before .before .before .before .pre .3)) (c .before .before .before .before .before .good .1 .1 .1 .1 .0 .1)
+point-at-requires : tie.Need-point-at-requires
+point-at-requires c κs =
+    let H = c .before .before .before .before .pre .0 in
+    let R = c .before .pop-end .ensures in
+    (record { times-long = omega (arith, R .from, R .to, H .long .times-long); values-long = omega (arith, R .from, R .to, H .long .values-long) }, H .in-span .each _ (omega (arith, R .from)) (omega (arith, R .from, R .to)))
 
-shared-slice-read-joining : tie.Need-shared-slice-read-joining
-shared-slice-read-joining c = omega (arith, c .before .before .pop-end .ensures .to, c .before .before .before .before .before .before .pre .3)
+point-at-requires-2 : tie.Need-point-at-requires-2
+point-at-requires-2 c κs =
+    let H = c .before .before .before .before .before .pre .1 in
+    let R = c .before .drop-head .ensures in
+    (record { times-long = omega (arith, R .to, H .long .times-long); values-long = omega (arith, R .to, H .long .values-long) }, H .in-span .each _ (R .from) (R .to))
 
-joining-requires : tie.Need-joining-requires
-joining-requires c κs = let P = c .before .before .before .before .before .before .pre in (P .0, P .0)
+through-requires : tie.Need-through-requires
+through-requires c κs = (c .before .point-at .ensures .proper, c .before .before .before .before .before .before .pre .2)
 
-mul-joining-2 : tie.Need-mul-joining-2
-mul-joining-2 c = omega (arith, c .before .before .drop-head .ensures .to, c .before .before .before .before .before .before .before .pre .5, c .before .before .before .before .before .before .before .good)
-
-shared-slice-read-joining-2 : tie.Need-shared-slice-read-joining-2
-shared-slice-read-joining-2 c = omega (arith, c .before .before .before .drop-head .ensures .to, c .before .before .before .before .before .before .before .before .pre .5)
-
-joining-requires-2 : tie.Need-joining-requires-2
-joining-requires-2 c κs = let P = c .before .before .before .before .before .before .before .before .pre in (P .1, P .0)
+through-requires-2 : tie.Need-through-requires-2
+through-requires-2 c κs = (c .before .point-at2 .ensures .proper, c .before .before .before .before .before .before .before .pre .2)
 
 returns : tie.Need-returns
-returns c = trimmed-of (c .before .before .before .before .before .pop-end .ensures) (c .before .before .before .before .drop-head .ensures) (c .before .before .joining .ensures) (c .joining2 .ensures)
+returns c = trimmed-of (c .before .before .before .before .before .pop-end .ensures) (c .before .before .before .before .drop-head .ensures) (c .before .before .before .point-at .ensures) (c .before .before .point-at2 .ensures) (c .before .through .ensures) (c .through2 .ensures)
 
 pub trim-spec : {M : Type 1} → statement M
 trim-spec =
@@ -41,11 +40,9 @@ trim-spec =
     (tie.spec
     pop-end-requires
     drop-head-requires
-    sub-joining
-    mul-joining
-    shared-slice-read-joining
-    joining-requires
-    mul-joining-2
-    shared-slice-read-joining-2
-    joining-requires-2
+    sub-point-at
+    point-at-requires
+    point-at-requires-2
+    through-requires
+    through-requires-2
     returns)
