@@ -1,4 +1,4 @@
--- A run in the order of time against the same run with its last range first. The algorithm and its proofs have the last range first, since each range joins what came before; document 01 and `Results` have the order of time. This is the one bridge.
+-- A run in the order of time against the same run with its last range first. The algorithm and its proofs have the last range first, since each range joins what came before; the scope and `Results` have the order of time. This is the one bridge.
 --
 --     run-turned              the run r, s, ws of the algorithm, for ws turned round, is the run r, s, ws turned round
 --     all-turned, all-in-time   what holds of all ranges of the one holds of all ranges of the other

@@ -18,7 +18,6 @@ pub mod Closing
 pub mod Pop
 pub mod PopEnd
 pub mod Size
-pub mod Built
 pub mod Means
 pub mod TwoEnds
 pub mod Candidates

@@ -1,10 +1,10 @@
--- Weighted means as document 01 has them, with natural weights and fractions, against sums of whole lines, c·l = Σ wᵢ·lᵢ.
+-- Weighted means as the scope has them, with natural weights and fractions, against sums of whole lines, c·l = Σ wᵢ·lᵢ.
 --
 --     naturalWeights ws          the paper's weights wᵢ·dᵢ
 --     mean-of-whole              a mean by sums of whole lines is a mean with these weights
 --     weighted-mean              so WholeMean gives WeightedMean
 --     mean-of-between            a line strictly between two others is a mean of them by whole lines, with weights above 0
---     corner-of, of-corner       a corner of the fit as document 01 means it, and as `CornersOfChains` has it, are one thing
+--     corner-of, of-corner       a corner of the fit as the scope means it, and as `CornersOfChains` has it, are one thing
 --     same-dec                   whether two lines are the same line
 --
 -- Assumes nothing.

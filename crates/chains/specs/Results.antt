@@ -19,12 +19,12 @@
 --
 -- ThroughTwoEnds and ThroughEnds are of `TwoEnds`, Closed is of `Closing`; all three speak of ranges and lines alone. `Candidates` has that every candidate goes through two ends.
 --
--- Where the algorithm departs from O'Rourke's printed one (001), and why:
---     the start        001 makes the new polygon from the range before the closing one and the closing one; document 01 starts a new segment from the closing range only, so the polygon starts when the range after it has come
---     times            001 wants them above 0, so that every edge falls and the rightmost corner is the lowest; here a time may be 0, and slow and fast are known by their slopes and by the ends that they touch, never by intercepts
---     what is kept     001 keeps the ring of corners and cuts it by a range's two half-planes; here the ring is kept as its edges, which are points of the trace, so that every corner is made from two points and no number grows
---     thin fits        001 takes a polygon with an inside for granted; here a fit that is a point or a segment of lines is kept, since a range with low = high makes one
---     the bound        001's 10n − 16 comparisons are not used: each point is pushed once and popped once
+-- Where the algorithm departs from O'Rourke's printed one, and why:
+--     the start        he makes the new polygon from the range before the closing one and the closing one; the scope starts a new segment from the closing range only, so the polygon starts when the range after it has come
+--     times            he wants them above 0, so that every edge falls and the rightmost corner is the lowest; here a time may be 0, and slow and fast are known by their slopes and by the ends that they touch, never by intercepts
+--     what is kept     he keeps the ring of corners and cuts it by a range's two half-planes; here the ring is kept as its edges, which are points of the trace, so that every corner is made from two points and no number grows
+--     thin fits        he takes a polygon with an inside for granted; here a fit that is a point or a segment of lines is kept, since a range with low = high makes one
+--     the bound        his 10n − 16 comparisons are not used: each point is pushed once and popped once
 -- Assumes nothing.
 use mathlib.Core.Path.{_≡_, refl, ap}
 use mathlib.Core.List.{List, [], _∷_, _++_, reverse, reverse-append}

@@ -12,7 +12,7 @@
 --     un-with                  one more point, seen in the mirror and back
 --     same-under               one line is not on both sides of a point
 --
--- Fits that are a point or a segment of lines are states like any other: 001 takes a polygon with an interior for granted.
+-- Fits that are a point or a segment of lines are states like any other: O'Rourke takes a polygon with an interior for granted.
 -- Assumes nothing.
 use mathlib.Core.Path.{_≡_, refl, sym, _∙_, ap, subst}
 use mathlib.Core.List.{[], _∷_, List}

@@ -1,4 +1,4 @@
--- The corners of a polygon in three lent slices: what code writes, and that it is document 01's list.
+-- The corners of a polygon in three lent slices: what code writes, and that it is the scope's list.
 --
 --     ChainListed f a b old.. at new.. n     the lines through neighbours of the points from a to b stand from `at` up to n, in lowest terms
 --     listed-none, listed-more               before the loop, and after one more point
@@ -21,7 +21,7 @@ use lib.ListN.{length, length-map, length-append}
 use lib.IntN.{ℤ, pos}
 use lib.Signed.{ltZ, _<ℤ_}
 use Rattle.integers.specs.Lists.{All, All-in, All-head, All-tail, All-append-left, All-append-right}
-use Rattle.definitions.specs.Lines.{Line as Line01}
+use Rattle.definitions.specs.Lines.{Line as LineTerm}
 use Rattle.definitions.specs.Corners.{reduced}
 use Rattle.chains.specs.Points.{Point, turn, through}
 use Rattle.chains.specs.Hull.{linesOf, cornersOf}
@@ -76,7 +76,7 @@ abbrev pub points : Polygon → ℕ
 points x = (x .upper .end - x .upper .start) + (x .lower .end - x .lower .start)
 
 -- lines, which stand first in lowest terms
-pub record Listed (ls : List Line01) (ps qs ds ps′ qs′ ds′ : List ℤ) (r : ℕ) : Type 0 where
+pub record Listed (ls : List LineTerm) (ps qs ds ps′ qs′ ds′ : List ℤ) (r : ℕ) : Type 0 where
   pub count : r ≡ length ls
   pub rows : RowsFirst (map reduced ls) ps qs ds ps′ qs′ ds′
 

@@ -1,4 +1,4 @@
--- The listed corners of a run, in document 01's terms.
+-- The listed corners of a run, in the scope's terms.
 --
 --     proper-corners, points-few     what listing the corners of a run asks: each has d above 0, and the chains have at most two points for each range of the run
 --     RunCorners, run-corners        the rows are the run's corners in corner order, at most two for each range

@@ -1,4 +1,5 @@
 // A call of Corners, and what is written of its answer.
+use definitions::limits::CORNER_ROOM;
 use drift::CornersAnswer;
 use drift::corners;
 use testing::lists::lent_numbers;
@@ -8,21 +9,13 @@ use testing::telling::number;
 use testing::telling::say;
 use testing::telling::signed_number;
 use testing::telling::tell_kept;
-
-struct Corner {
-    p: i64,
-    q: i64,
-    d: i64,
-}
+use values::Line;
 
 // What was seen of the slices so far.
 struct Seen {
     digest: u64,
     kept: bool,
 }
-
-// The length of a slice to be filled.
-const ROOM: usize = 8192;
 
 // What every entry holds before a call.
 const OLD: i64 = 77;
@@ -31,23 +24,23 @@ const OLD: i64 = 77;
 const SHOWN: usize = 12;
 
 // Entry k of each slice; past a slice's end, what it would hold before a call.
-fn corner_at(k: usize, ps: &[i64], qs: &[i64], ds: &[i64]) -> Corner {
-    Corner {
+fn corner_at(k: usize, ps: &[i64], qs: &[i64], ds: &[i64]) -> Line {
+    Line {
         p: number_or(ps, k, OLD),
         q: number_or(qs, k, OLD),
         d: number_or(ds, k, OLD),
     }
 }
 
-fn is_old(c: Corner) -> bool {
+fn is_old(c: Line) -> bool {
     c.p == OLD && c.q == OLD && c.d == OLD
 }
 
-fn mixed_corner(digest: u64, c: Corner) -> u64 {
+fn mixed_corner(digest: u64, c: Line) -> u64 {
     mixed_signed(mixed_signed(mixed_signed(digest, c.p), c.q), c.d)
 }
 
-fn tell_corner(c: Corner) {
+fn tell_corner(c: Line) {
     say(b" (");
     signed_number(c.p);
     say(b", ");
@@ -58,7 +51,7 @@ fn tell_corner(c: Corner) {
 }
 
 // One place of the slices: a corner, or an entry that has to be as it was.
-fn see(seen: Seen, place: usize, count: usize, c: Corner) -> Seen {
+fn see(seen: Seen, place: usize, count: usize, c: Line) -> Seen {
     if place < count {
         if place < SHOWN || count - place == 1 {
             tell_corner(c);
@@ -81,7 +74,7 @@ fn see_all(count: usize, ps: &[i64], qs: &[i64], ds: &[i64]) -> Seen {
         kept: true,
     };
     let mut k = 0;
-    while k < ROOM {
+    while k < CORNER_ROOM {
         seen = see(seen, k, count, corner_at(k, ps, qs, ds));
         k += 1;
     }
@@ -123,9 +116,9 @@ pub fn tell(short: usize, k: usize, times: &[u32], lows: &[i32], highs: &[i32]) 
     say(b"after ");
     number(k as u64);
     say(b":");
-    let mut ps = [OLD; ROOM];
-    let mut qs = [OLD; ROOM];
-    let mut ds = [OLD; ROOM];
+    let mut ps = [OLD; CORNER_ROOM];
+    let mut qs = [OLD; CORNER_ROOM];
+    let mut ds = [OLD; CORNER_ROOM];
     let answer = corners(
         k,
         times,

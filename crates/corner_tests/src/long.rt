@@ -3,6 +3,7 @@ use crate::answers::tell;
 use testing::lists::first_times;
 use testing::lists::first_values;
 use testing::shapes::LATE_FIRST;
+use testing::shapes::MOST_MADE;
 use testing::shapes::Shape;
 use testing::shapes::WIDE;
 use testing::shapes::WIDE_FIRST;
@@ -12,9 +13,9 @@ use testing::telling::heading;
 
 // The corners after k of the first n ranges of a shape, for n up to 4,097.
 fn after(name: &[u8], shape: Shape, first: u64, gap: u64, n: usize, k: usize) {
-    let mut times = [0u32; 4097];
-    let mut lows = [0i32; 4097];
-    let mut highs = [0i32; 4097];
+    let mut times = [0u32; MOST_MADE];
+    let mut lows = [0i32; MOST_MADE];
+    let mut highs = [0i32; MOST_MADE];
     fill(shape, first, gap, &mut times, &mut lows, &mut highs);
     heading(name);
     tell(

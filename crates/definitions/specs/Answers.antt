@@ -2,7 +2,7 @@
 --
 --     Answer                 refused with a number, or accepted with a result
 --     _>>=_                  the first refusal, or the second call on the result of the first
---     Row, firstRow          a row of document 01's table of refusals, and the number of the first row that holds
+--     Row, firstRow          a row of the scope's table of refusals, and the number of the first row that holds
 --     refusal                the number of a refusal, and 0 where the call is accepted: what a trial without a result gives
 --     filled                 what a lent slice holds after a call
 --

@@ -1,4 +1,4 @@
--- The trial traces of document 01 that are marked to be proved, and its report: one table, and one theorem that each case gives what is expected.
+-- The trial traces of the scope that are marked to be proved, and its report: one table, and one theorem that each case gives what is expected.
 --
 --     table                  a call and its result, for each case
 --     table-holds            each call gives its result, by computation

@@ -6,7 +6,7 @@
 --     between                strictly between two lines: on their diagonal, and between their slopes
 --     fitting                the lines through two ends that fit, reduced, each once, by rising slope
 --     extreme                those that are not strictly between two others
---     cornerOrder, corners   document 01's corner order, and the corners in it
+--     cornerOrder, corners   the scope's corner order, and the corners in it
 --
 -- A corner is a line of the fit that is not strictly between two other lines of it. The fit is endless, and the finite list of lines through two ends stands for it; that no corner is missed and that no other line of the fit has a listed one strictly between is a theorem of `lines`.
 -- Assumes nothing.

@@ -1,4 +1,4 @@
--- The fit as document 01 means it: all lines of any size that fit some ranges. Nothing here computes; the theorems of `lines` say that the definitions that compute mean this.
+-- The fit as the scope means it: all lines of any size that fit some ranges. Nothing here computes; the theorems of `lines` say that the definitions that compute mean this.
 --
 --     FitsRange, InFit       the line fits a range; it is a line of the fit of some ranges
 --     HasLine                some whole p, q and d, d above 0 and all of any size, fit each of the ranges

@@ -1,6 +1,6 @@
 -- Lines, and when they fit.
 --
---     Line                   document 01's line: p, q, d, with the value (p·t + q)/d at t
+--     Line                   the scope's line: p, q, d, with the value (p·t + q)/d at t
 --     reading                d times that value
 --     fitsRange, fits        the line fits a range, each of some ranges
 --     Side, sideAt           the line is below, at or above a level at a time

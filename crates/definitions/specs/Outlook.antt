@@ -1,7 +1,7 @@
 -- The outlook of a segment.
 --
---     someTime, allTime      document 01's *some* and *all*: the first time from the segment's last on at which some line, every line is at or above the level
---     Outlook, outlook       document 01's outlook: open, or the slow line, the fast line, *some* and *all*
+--     someTime, allTime      the scope's *some* and *all*: the first time from the segment's last on at which some line, every line is at or above the level
+--     Outlook, outlook       the scope's outlook: open, or the slow line, the fast line, *some* and *all*
 --
 -- The lines asked are the fitting ones through two ends; that this decides it for every line of the fit is a theorem of `lines`.
 -- Assumes nothing.

@@ -1,16 +1,19 @@
 -- The segment results: for each segment eleven numbers, one in each of the lent slices.
 --
 --     Segment, segmentOf     first and last time, number of ranges and outlook of a run
---     Numbers, numbersOf     its eleven numbers: 4,294,967,296 stands for none, and an open segment has 0 in the last eight
+--     timeNumber             the number of a time: 4,294,967,296 stands for none
+--     Numbers, numbersOf     the row of a segment, its eleven numbers; an open segment has 0 in the last eight
 --
 -- Assumes nothing.
 use Prim.Native.Nat.{ℕ}
 use mathlib.Core.List.{List, [], _∷_, map}
 use lib.ListN.{length}
 use lib.IntN.{ℤ, pos}
+use Rattle.definitions.specs.Spans.{noTime}
 use Rattle.definitions.specs.Ranges.{Range}
 use Rattle.definitions.specs.Times.{Time, none, at}
 use Rattle.definitions.specs.Services.{Service}
+use Rattle.definitions.specs.Lines.{Line}
 use Rattle.definitions.specs.Segments.{segments}
 use Rattle.definitions.specs.Outlook.{Outlook, open-strip, lines, outlook, endTime}
 
@@ -30,8 +33,31 @@ segmentsOf v rs = map (segmentOf v) (segments rs)
 
 -- the number that stands for a time
 unfoldable pub timeNumber : Time → ℕ
-timeNumber none = 4294967296
+timeNumber none = noTime
 timeNumber (at t) = t
+
+-- ---- what a segment's numbers tell of its outlook: an open one has 0 for each
+
+abbrev zeros : Line
+zeros = record { p = pos 0; q = pos 0; d = pos 0 }
+
+unfoldable pub slowLine : Outlook → Line
+slowLine open-strip = zeros
+slowLine (lines slow fast some all) = slow
+
+unfoldable pub fastLine : Outlook → Line
+fastLine open-strip = zeros
+fastLine (lines slow fast some all) = fast
+
+unfoldable pub someNumber : Outlook → ℕ
+someNumber open-strip = 0
+someNumber (lines slow fast some all) = timeNumber some
+
+unfoldable pub allNumber : Outlook → ℕ
+allNumber open-strip = 0
+allNumber (lines slow fast some all) = timeNumber all
+
+-- ---- the row of a segment, in the order of the slices
 
 pub record Numbers : Type 0 where
   pub firstTime : ℕ
@@ -46,35 +72,18 @@ pub record Numbers : Type 0 where
   pub some : ℕ
   pub all : ℕ
 
-unfoldable pub numbers : ℕ → ℕ → ℕ → Outlook → Numbers
-numbers a b n open-strip =
-    record {
-      firstTime = a;
-      lastTime = b;
-      count = n;
-      slowP = pos 0;
-      slowQ = pos 0;
-      slowD = pos 0;
-      fastP = pos 0;
-      fastQ = pos 0;
-      fastD = pos 0;
-      some = 0;
-      all = 0;
-    }
-numbers a b n (lines k l s e) =
-    record {
-      firstTime = a;
-      lastTime = b;
-      count = n;
-      slowP = k .p;
-      slowQ = k .q;
-      slowD = k .d;
-      fastP = l .p;
-      fastQ = l .q;
-      fastD = l .d;
-      some = timeNumber s;
-      all = timeNumber e;
-    }
-
 unfoldable pub numbersOf : Segment → Numbers
-numbersOf s = numbers (s .firstTime) (s .lastTime) (s .count) (s .outlook)
+numbersOf s =
+    record {
+      firstTime = s .firstTime;
+      lastTime = s .lastTime;
+      count = s .count;
+      slowP = slowLine (s .outlook) .p;
+      slowQ = slowLine (s .outlook) .q;
+      slowD = slowLine (s .outlook) .d;
+      fastP = fastLine (s .outlook) .p;
+      fastQ = fastLine (s .outlook) .q;
+      fastD = fastLine (s .outlook) .d;
+      some = someNumber (s .outlook);
+      all = allNumber (s .outlook);
+    }

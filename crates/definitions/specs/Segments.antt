@@ -1,6 +1,6 @@
 -- Segments.
 --
---     segments               document 01's segments: the first begins at the first range; each next range joins if some line fits the segment with it, and else begins a new one
+--     segments               the scope's segments: the first begins at the first range; each next range joins if some line fits the segment with it, and else begins a new one
 --     runningAfter           the segment then running after the first k ranges, up to range k
 --
 -- Assumes nothing.

@@ -1,6 +1,6 @@
 -- What an outlook looks for.
 --
---     Service      document 01's service level
+--     Service      the service level; an outlook tells when it is reached
 --
 -- Assumes nothing.
 use lib.IntN.{ℤ}

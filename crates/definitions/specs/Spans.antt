@@ -1,7 +1,7 @@
--- The numbers that document 01 fixes, each once.
+-- The numbers that the scope fixes, each once.
 --
 --     mostValue                        lows, highs and the service level run from −268,435,456 to 268,435,456
---     mostTime                         times run from 0 to 4,294,967,295
+--     mostTime, noTime                 times run from 0 to 4,294,967,295; the number after that stands for a time that there is not
 --     mostRanges                       a trace has 0 to 4,096 ranges
 --     leastAddress, mostAddress        a detector's address
 --     readRoom, writeRoom, segmentRoom, cornerRoom   the least length of each slice that a call fills
@@ -15,6 +15,9 @@ mostValue = 268435456
 abbrev pub mostTime : ℕ
 mostTime = 4294967295
 
+abbrev pub noTime : ℕ
+noTime = 4294967296
+
 abbrev pub mostRanges : ℕ
 mostRanges = 4096
 
@@ -26,7 +29,7 @@ mostAddress = 255
 
 -- Read: times, lows and highs
 abbrev pub readRoom : ℕ
-readRoom = 4096
+readRoom = mostRanges
 
 -- Write: the file's bytes, as many as the largest file has
 abbrev pub writeRoom : ℕ

@@ -1,7 +1,7 @@
 -- Cutting a list into runs, greedily, and splits of a list into good runs, for any test of runs.
 --
 --     cut                    each element joins the run before it if the test passes the run with it, and else begins a new run
---     Split                  document 01's split: runs, none empty and each good, that one after the other are the whole list
+--     Split                  the scope's split: runs, none empty and each good, that one after the other are the whole list
 --     endOf                  how many elements the first j runs have, so where the j-th run ends
 --     lastRun                the run that ends last
 --

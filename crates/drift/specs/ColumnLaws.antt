@@ -1,8 +1,6 @@
 -- Laws of the eleven columns.
 --
---     each, each-apply             a rule that always holds; a rule that follows from another, column by column
 --     room-less, room-kept         room for fewer; room in columns of the same lengths
---     room-tested                  no length is too short, so there is room
 --     stored-next                  of one column: x stored past the entries xs
 --     filled-none, filled-next     nothing stored; n stored next after ns
 --     filled-lengths               filling keeps the lengths
@@ -27,39 +25,7 @@ use Rattle.integers.specs.Booleans.{or-neither}
 use Rattle.integers.specs.Lists.{any}
 use Rattle.definitions.specs.Results.{Numbers, Segment, numbersOf}
 use Rattle.definitions.specs.Trial.{tooShort}
-use Rattle.drift.specs.Columns.{Columns, Rule, EachColumn, lengths, Room, SameLengths, Stored, Filled, FirstStored, AllStored}
-
-pub each : {rule : Rule} → ((A : Type 0) (number : Numbers → A) (column : Columns → List A) → rule A number column) → EachColumn rule
-each h =
-    record {
-      first-times = h _ _ _;
-      last-times = h _ _ _;
-      counts = h _ _ _;
-      slow-ps = h _ _ _;
-      slow-qs = h _ _ _;
-      slow-ds = h _ _ _;
-      fast-ps = h _ _ _;
-      fast-qs = h _ _ _;
-      fast-ds = h _ _ _;
-      somes = h _ _ _;
-      alls = h _ _ _;
-    }
-
-pub each-apply : {P Q : Rule} → EachColumn (λ A number column. P A number column → Q A number column) → EachColumn P → EachColumn Q
-each-apply f h =
-    record {
-      first-times = f .first-times (h .first-times);
-      last-times = f .last-times (h .last-times);
-      counts = f .counts (h .counts);
-      slow-ps = f .slow-ps (h .slow-ps);
-      slow-qs = f .slow-qs (h .slow-qs);
-      slow-ds = f .slow-ds (h .slow-ds);
-      fast-ps = f .fast-ps (h .fast-ps);
-      fast-qs = f .fast-qs (h .fast-qs);
-      fast-ds = f .fast-ds (h .fast-ds);
-      somes = f .somes (h .somes);
-      alls = f .alls (h .alls);
-    }
+use Rattle.drift.specs.Columns.{Columns, each, each-apply, Room, SameLengths, Stored, Filled, FirstStored, AllStored}
 
 -- ---- room
 
@@ -68,32 +34,6 @@ room-less h room = each-apply (each (λ A number column r. omega arith)) room
 
 pub room-kept : {k : ℕ} {old new : Columns} → SameLengths old new → Room k old → Room k new
 room-kept same room = each-apply (each-apply (each (λ A number column e r. omega arith)) same) room
-
-abbrev AllFrom : ℕ → List ℕ → Type 0
-AllFrom k [] = Unit
-AllFrom k (n ∷ ns) = (k ≤ n) × AllFrom k ns
-
-all-from : (k : ℕ) (ns : List ℕ) → tooShort k ns ≡ false → AllFrom k ns
-unfolding tooShort any
-all-from k [] e = tt
-all-from k (n ∷ ns) e = let (here, later) = or-neither (ltb n k) (tooShort k ns) e in (ltb-false n k here, all-from k ns later)
-
-pub room-tested : {k : ℕ} (cs : Columns) → tooShort k (lengths cs) ≡ false → Room k cs
-room-tested {k} cs e =
-    let h = all-from k (lengths cs) e in
-    record {
-      first-times = h .0;
-      last-times = h .1 .0;
-      counts = h .1 .1 .0;
-      slow-ps = h .1 .1 .1 .0;
-      slow-qs = h .1 .1 .1 .1 .0;
-      slow-ds = h .1 .1 .1 .1 .1 .0;
-      fast-ps = h .1 .1 .1 .1 .1 .1 .0;
-      fast-qs = h .1 .1 .1 .1 .1 .1 .1 .0;
-      fast-ds = h .1 .1 .1 .1 .1 .1 .1 .1 .0;
-      somes = h .1 .1 .1 .1 .1 .1 .1 .1 .1 .0;
-      alls = h .1 .1 .1 .1 .1 .1 .1 .1 .1 .1 .0;
-    }
 
 -- ---- storing one row after the other
 

@@ -3,20 +3,29 @@
 --     Columns, columns       the contents of the eleven slices: a column for each of a segment's numbers, with one entry a segment
 --     lengths                how many entries each column has
 --     EachColumn rule        the rule holds of each of the eleven numbers with the column that holds it
---     Room k cs              each column has k entries or more
+--     each, each-apply       a rule that always holds; a rule that follows from another, column by column
+--     rowAt, row-is          the row at a place of the columns, and how it is known
+--     Room k cs, room-tested each column has k entries or more; no length is too short, so there is room
 --     SameLengths old new    each column is as long as before
 --     Stored k n old new     the numbers n stand at k, and all else is as before
 --     Filled ns old new      the numbers ns stand first, one after the other, and past them all is as before
 --     FirstStored c ss       the first c of the segments ss are filled in
 --     AllStored c ss         the segments ss are filled in, and there are c of them
 --
+-- A column more is a line more in each list of this file; all laws elsewhere go by `EachColumn`.
 -- Assumes nothing.
 use Prim.Native.Nat.{ℕ, _≤_}
 use mathlib.Core.Path.{_≡_}
+use mathlib.Core.Bool.{false}
 use mathlib.Core.List.{List, [], _∷_, _++_, map}
-use lib.IntN.{ℤ}
-use lib.ListN.{length, set, take, drop}
+use borrow.Author.Tests.{ltb-false}
+use lib.Dec.{ltb}
+use lib.IntN.{ℤ, pos}
+use lib.ListN.{length, getD, set, take, drop}
+use Rattle.integers.specs.Booleans.{or-neither}
+use Rattle.integers.specs.Lists.{any}
 use Rattle.definitions.specs.Results.{Numbers, Segment, numbersOf}
+use Rattle.definitions.specs.Trial.{tooShort}
 
 pub record Columns : Type 0 where
   pub firstTimes : List ℕ
@@ -79,8 +88,105 @@ pub record EachColumn (rule : Rule) : Type 0 where
   pub somes : rule ℕ (λ n. n .some) (λ cs. cs .somes)
   pub alls : rule ℕ (λ n. n .all) (λ cs. cs .alls)
 
+pub each : {rule : Rule} → ((A : Type 0) (number : Numbers → A) (column : Columns → List A) → rule A number column) → EachColumn rule
+each h =
+    record {
+      first-times = h _ _ _;
+      last-times = h _ _ _;
+      counts = h _ _ _;
+      slow-ps = h _ _ _;
+      slow-qs = h _ _ _;
+      slow-ds = h _ _ _;
+      fast-ps = h _ _ _;
+      fast-qs = h _ _ _;
+      fast-ds = h _ _ _;
+      somes = h _ _ _;
+      alls = h _ _ _;
+    }
+
+pub each-apply : {P Q : Rule} → EachColumn (λ A number column. P A number column → Q A number column) → EachColumn P → EachColumn Q
+each-apply f h =
+    record {
+      first-times = f .first-times (h .first-times);
+      last-times = f .last-times (h .last-times);
+      counts = f .counts (h .counts);
+      slow-ps = f .slow-ps (h .slow-ps);
+      slow-qs = f .slow-qs (h .slow-qs);
+      slow-ds = f .slow-ds (h .slow-ds);
+      fast-ps = f .fast-ps (h .fast-ps);
+      fast-qs = f .fast-qs (h .fast-qs);
+      fast-ds = f .fast-ds (h .fast-ds);
+      somes = f .somes (h .somes);
+      alls = f .alls (h .alls);
+    }
+
+-- the numbers at a place
+unfoldable pub rowAt : Columns → ℕ → Numbers
+rowAt cs j =
+    record {
+      firstTime = getD (cs .firstTimes) j 0;
+      lastTime = getD (cs .lastTimes) j 0;
+      count = getD (cs .counts) j 0;
+      slowP = getD (cs .slowPs) j (pos 0);
+      slowQ = getD (cs .slowQs) j (pos 0);
+      slowD = getD (cs .slowDs) j (pos 0);
+      fastP = getD (cs .fastPs) j (pos 0);
+      fastQ = getD (cs .fastQs) j (pos 0);
+      fastD = getD (cs .fastDs) j (pos 0);
+      some = getD (cs .somes) j 0;
+      all = getD (cs .alls) j 0;
+    }
+
+-- each number is what its column has at the place
+pub row-is : (cs : Columns) (j : ℕ) {n : Numbers} → EachColumn (λ A number column. (past : A) → getD (column cs) j past ≡ number n) → rowAt cs j ≡ n
+unfolding rowAt
+row-is cs j h = λ i.
+    record {
+      firstTime = h .first-times 0 i;
+      lastTime = h .last-times 0 i;
+      count = h .counts 0 i;
+      slowP = h .slow-ps (pos 0) i;
+      slowQ = h .slow-qs (pos 0) i;
+      slowD = h .slow-ds (pos 0) i;
+      fastP = h .fast-ps (pos 0) i;
+      fastQ = h .fast-qs (pos 0) i;
+      fastD = h .fast-ds (pos 0) i;
+      some = h .somes 0 i;
+      all = h .alls 0 i;
+    }
+
+-- ---- room
+
 abbrev pub Room : ℕ → Columns → Type 0
 Room k cs = EachColumn (λ A number column. k ≤ length (column cs))
+
+abbrev AllFrom : ℕ → List ℕ → Type 0
+AllFrom k [] = Unit
+AllFrom k (n ∷ ns) = (k ≤ n) × AllFrom k ns
+
+all-from : (k : ℕ) (ns : List ℕ) → tooShort k ns ≡ false → AllFrom k ns
+unfolding tooShort any
+all-from k [] e = tt
+all-from k (n ∷ ns) e = let (here, later) = or-neither (ltb n k) (tooShort k ns) e in (ltb-false n k here, all-from k ns later)
+
+pub room-tested : {k : ℕ} (cs : Columns) → tooShort k (lengths cs) ≡ false → Room k cs
+room-tested {k} cs e =
+    let h = all-from k (lengths cs) e in
+    record {
+      first-times = h .0;
+      last-times = h .1 .0;
+      counts = h .1 .1 .0;
+      slow-ps = h .1 .1 .1 .0;
+      slow-qs = h .1 .1 .1 .1 .0;
+      slow-ds = h .1 .1 .1 .1 .1 .0;
+      fast-ps = h .1 .1 .1 .1 .1 .1 .0;
+      fast-qs = h .1 .1 .1 .1 .1 .1 .1 .0;
+      fast-ds = h .1 .1 .1 .1 .1 .1 .1 .1 .0;
+      somes = h .1 .1 .1 .1 .1 .1 .1 .1 .1 .0;
+      alls = h .1 .1 .1 .1 .1 .1 .1 .1 .1 .1 .0;
+    }
+
+-- ---- what a call leaves
 
 abbrev pub SameLengths : Columns → Columns → Type 0
 SameLengths old new = EachColumn (λ A number column. length (column new) ≡ length (column old))

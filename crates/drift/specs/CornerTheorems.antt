@@ -2,7 +2,7 @@
 --
 --     givenLines n ps qs ds      the lines whose p, q and d are the first n entries of three slices
 -- Where it gave the number n of corners
---     given-corners              these lines are the corners of the segment running after k ranges, in document 01's list
+--     given-corners              these lines are the corners of the segment running after k ranges, in the scope's list
 --     given-count                and at most 2k
 --     given-fit, given-mean      each fits that segment, and every line that fits it is a weighted mean of them
 --     given-exact                a line is among them exactly if it is a corner of the fit, in lowest terms
@@ -27,7 +27,7 @@ use lib.ListN.{length, take, drop, length-map, length-append, take-append-drop}
 use lib.Seq.{take-at, drop-at, length-take-le}
 use Rattle.integers.specs.Lists.{All, In}
 use Rattle.integers.specs.LowestTerms.{InLowestTerms}
-use Rattle.definitions.specs.Spans.{cornerRoom}
+use Rattle.definitions.specs.Spans.{mostRanges, cornerRoom}
 use Rattle.definitions.specs.Ranges.{Range, Lists, rangesOf}
 use Rattle.definitions.specs.Lines.{Line, hasLine}
 use Rattle.definitions.specs.Corners.{corners}
@@ -75,7 +75,7 @@ module _ (ns : List ℕ) (k : ℕ) (ls : Lists) (fit : Fit) (e : cornersCall ns 
   unfolding cornersCall
   answered = call-accepted (cornerRows ns k ls) (fitOf running) fit .0 e
 
-  proper : (tooShort cornerRoom ns ≡ false) × (1 ≤ k) × (k ≤ length (ls .times)) × AcceptedLists ls
+  proper : (tooShort cornerRoom ns ≡ false) × (1 ≤ k) × (k ≤ length (ls .times)) × AcceptedLists ls × (length (ls .times) ≤ mostRanges)
   proper = corner-accepted ns k ls .0 (first-row-accepted (cornerRows ns k ls) .1 (answered .0))
 
   order : Ordered (rangesOf ls)

@@ -1,4 +1,4 @@
--- What Corners promises: its answer and the three slices, by equations with document 01's call.
+-- What Corners promises: its answer and the three slices, by equations with the scope's call.
 --
 --     CornerCount, countOf   what the answer tells of a fit: that it is open, or how many corners it has
 --     cornersIn              the corners of a fit; an open one has none

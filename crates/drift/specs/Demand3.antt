@@ -2,7 +2,7 @@
 --
 --     givenRun j                       the ranges of the trace from the j-th first time that stands in the slices to the j-th last time
 --     givenRuns                        these runs, as many as the number that Segment gave
---     given-are-segments               they are document 01's segments
+--     given-are-segments               they are the scope's segments
 --     given-split                      they are a split
 --     given-times                      each given first and last time is that of its run's first and last range
 --     given-ahead                      for every split and every j up to both counts, the j-th last time given is at or after the last time in the split's j-th run
@@ -31,7 +31,7 @@ use Rattle.lines.specs.Theorems.{segments-split, segments-ranges, segments-ahea
 use Rattle.drift.specs.declared.SegmentAnswer.the-variants.{Accepted}
 use Rattle.drift.specs.Columns.{Columns}
 use Rattle.drift.specs.SegmentPromise.{SegmentPromise}
-use Rattle.drift.specs.GivenColumns.{first-number, last-number, ordered, count-is, column-at}
+use Rattle.drift.specs.GivenColumns.{ordered, count-is, column-at}
 
 -- ---- what the slices give
 
@@ -57,24 +57,17 @@ module _ {v : Service} {ls : Lists} {old new : Columns} {n : ℕ} (promise : Seg
     below : j < length (segments rs)
     below = omega (arith, given-count)
 
-    abbrev segmentAt : Segment
-    segmentAt = getD (segmentsOf v rs) j (segmentOf v [])
-
     pub first-given : getD (new .firstTimes) j 0 ≡ firstTimeOf (getD (segments rs) j [])
     unfolding numbersOf
     first-given =
-        let s = segmentAt in
         column-at promise (λ m. m .firstTime) (new .firstTimes) (old .firstTimes) (promise .columns-are .first-times) j h 0
-        ∙ first-number (s .firstTime) (s .lastTime) (s .count) (s .outlook)
         ∙ ap (λ x. x .firstTime) (segmentsOf-at v rs j)
         ∙ segment-first-time v (getD (segments rs) j [])
 
     pub last-given : getD (new .lastTimes) j 0 ≡ lastTimeOf (getD (segments rs) j [])
     unfolding numbersOf
     last-given =
-        let s = segmentAt in
         column-at promise (λ m. m .lastTime) (new .lastTimes) (old .lastTimes) (promise .columns-are .last-times) j h 0
-        ∙ last-number (s .firstTime) (s .lastTime) (s .count) (s .outlook)
         ∙ ap (λ x. x .lastTime) (segmentsOf-at v rs j)
         ∙ segment-last-time v (getD (segments rs) j [])
 

@@ -1,8 +1,8 @@
 -- Filling the slices of Segment, one segment a turn.
 --
---     Tried              the level and the lists, where no row of document 01's table holds for them
+--     Tried              the service and the lists, where no row of the scope's table holds for them
 --     StartReady         these, room for the chains of a run, and a range at which a segment is to begin
---     FillReady          the level and the lists tried, and room for all segments: what filling takes
+--     FillReady          the service and the lists tried, and room for all segments: what filling takes
 --     NextSegment        the segment that begins at a range is the next one, and ends within the lists
 --     Turn               after some turns: the first segments are stored, and the ranges from `start` on hold those that are left
 --     ranges-long        there are no more ranges than times
@@ -15,6 +15,7 @@ use mathlib.Core.List.{List, [], _∷_}
 use native.Mathlib.Omega.{arith}
 use lib.IntN.{ℤ}
 use lib.ListN.{length, drop}
+use Rattle.definitions.specs.Spans.{mostRanges}
 use Rattle.definitions.specs.Services.{Service}
 use Rattle.definitions.specs.Ranges.{Lists, zipRanges, rangesOf}
 use Rattle.definitions.specs.Results.{Segment, segmentsOf}
@@ -26,6 +27,7 @@ use Rattle.drift.specs.Columns.{Columns, Room, FirstStored}
 pub record Tried (v : Service) (ls : Lists) : Type 0 where
   pub level-inside : outside (v .level) ≡ false
   pub lists-accepted : AcceptedLists ls
+  pub few : length (ls .times) ≤ mostRanges
 
 pub record StartReady (v : Service) (ls : Lists) (up down : Chain) (start : ℕ) : Type 0 where
   pub tried : Tried v ls

@@ -1,9 +1,9 @@
 -- What the slices hold where Segment accepted.
 --
---     called, taken, ordered the call's result, that the lists are acceptable, and that the times of their ranges rise
+--     called, taken, taken-few, ordered   the call's result, that the lists are acceptable and at most 4,096 ranges, and that their times rise
 --     count-is               the number that Segment gave is the number of segments
 --     column-room, column-at a column has an entry for each segment: its number of that segment
---     first-number, last-number, count-number   the first three numbers of a segment do not depend on its outlook
+--     rows-room, row-at      there is a row for each segment: its numbers
 --
 -- Assumes nothing.
 use mathlib.Core.Path.{_≡_, refl, sym, ap, _∙_}
@@ -11,11 +11,11 @@ use mathlib.Core.List.{List, [], _∷_, _++_, map}
 use Prim.Native.Nat.{ℕ, zero, suc, _<_, _≤_}
 use native.Mathlib.Omega.{arith}
 use lib.ListN.{length, getD, drop, length-map, length-append, List·getD-map, List·getD-append}
+use Rattle.definitions.specs.Spans.{mostRanges}
 use Rattle.definitions.specs.Services.{Service}
 use Rattle.definitions.specs.Ranges.{Range, Lists, rangesOf}
 use Rattle.definitions.specs.Fit.{Ordered}
-use Rattle.definitions.specs.Outlook.{Outlook, open-strip, lines}
-use Rattle.definitions.specs.Results.{Segment, Numbers, segmentOf, segmentsOf, numbers, numbersOf}
+use Rattle.definitions.specs.Results.{Segment, Numbers, segmentOf, segmentsOf, numbersOf}
 use Rattle.definitions.specs.Answers.{accepted, _>>=_, firstRow, filled}
 use Rattle.definitions.specs.Trial.{segmentRows}
 use Rattle.definitions.specs.Calls.{segmentCall}
@@ -23,26 +23,8 @@ use Rattle.trial_laws.specs.Rows.{first-row-accepted}
 use Rattle.trial_laws.specs.CallLaws.{both-accepted, call-accepted, accepted-is}
 use Rattle.trial_laws.specs.Accepted.{AcceptedLists, segment-accepted}
 use Rattle.drift.specs.declared.SegmentAnswer.the-variants.{Accepted}
-use Rattle.drift.specs.Columns.{Columns, lengths}
+use Rattle.drift.specs.Columns.{Columns, each, each-apply, lengths, rowAt, row-is, Room}
 use Rattle.drift.specs.SegmentPromise.{segmentMeaning, SegmentPromise}
-
--- ---- the numbers of a segment
-
-module _ (a b n : ℕ) where
-  pub first-number : (o : Outlook) → numbers a b n o .firstTime ≡ a
-  unfolding numbers
-  first-number open-strip = refl
-  first-number (lines k l x y) = refl
-
-  pub last-number : (o : Outlook) → numbers a b n o .lastTime ≡ b
-  unfolding numbers
-  last-number open-strip = refl
-  last-number (lines k l x y) = refl
-
-  pub count-number : (o : Outlook) → numbers a b n o .count ≡ n
-  unfolding numbers
-  count-number open-strip = refl
-  count-number (lines k l x y) = refl
 
 -- below the length the entry past the end does not matter
 getD-other : {A : Type 0} (l : List A) (j : ℕ) (a b : A) → j < length l → getD l j a ≡ getD l j b
@@ -71,6 +53,9 @@ module _ {v : Service} {ls : Lists} {old new : Columns} {n : ℕ} (promise : Seg
   pub taken : AcceptedLists ls
   taken = segment-accepted (lengths old) v ls .0 no-row .2
 
+  pub taken-few : length (ls .times) ≤ mostRanges
+  taken-few = segment-accepted (lengths old) v ls .0 no-row .3
+
   pub ordered : Ordered rs
   ordered = taken .ranges .ordered
 
@@ -98,3 +83,9 @@ module _ {v : Service} {ls : Lists} {old new : Columns} {n : ℕ} (promise : Seg
         ∙ List·getD-append told (drop (length told) column₀) past j (omega (arith, told-long))
         ∙ getD-other told j past (number (numbersOf (segmentOf v []))) (omega (arith, told-long))
         ∙ List·getD-map (λ s. number (numbersOf s)) (segmentsOf v rs) j (segmentOf v [])
+
+  pub rows-room : Room n new
+  rows-room = each-apply (each (λ A number column e. column-room number (column new) (column old) e)) (promise .columns-are)
+
+  pub row-at : (j : ℕ) → j < n → rowAt new j ≡ numbersOf (getD (segmentsOf v rs) j (segmentOf v []))
+  row-at j h = row-is new j (each-apply (each (λ A number column e. column-at number (column new) (column old) e j h)) (promise .columns-are))

@@ -3,7 +3,6 @@ pub mod CornersPromiseLaws
 pub mod CornerTheorems
 pub mod Columns
 pub mod ColumnLaws
-pub mod Rows
 pub mod SegmentPromise
 pub mod SegmentPromiseLaws
 pub mod Filling

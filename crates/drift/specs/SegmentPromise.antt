@@ -1,11 +1,11 @@
--- What Segment promises: its answer and the eleven slices, by equations with document 01's call.
+-- What Segment promises: its answer and the eleven slices, by equations with the scope's call.
 --
 --     segmentMeaning     what each case of the answer stands for
 --     SegmentPromise     the answer is the number of segments, or of the refusal; each slice has its column of the segments and past these its old contents,
 --                        and its old contents whole where the call is refused
 --
--- Example: with h : SegmentPromise level ls old new answer, `h .columns-are .slow-ps` is the equation of the slice that holds p of the slow lines,
--- new .slowPs ≡ filled (segmentCall (lengths old) level ls) (λ ss. map (λ s. numbersOf s .slowP) ss) (old .slowPs).
+-- Example: with h : SegmentPromise v ls old new answer, `h .columns-are .slow-ps` is the equation of the slice that holds p of the slow lines,
+-- new .slowPs ≡ filled (segmentCall (lengths old) v ls) (λ ss. map (λ s. numbersOf s .slowP) ss) (old .slowPs).
 -- Assumes nothing.
 use Prim.Native.Nat.{ℕ}
 use mathlib.Core.Path.{_≡_}

@@ -15,8 +15,7 @@ use Rattle.definitions.specs.Answers.{Answer, refused, accepted, _>>=_, firstRo
 use Rattle.definitions.specs.Trial.{segmentRows}
 use Rattle.definitions.specs.Calls.{segmentCall}
 use Rattle.drift.specs.declared.SegmentAnswer.the-variants.{Accepted, Refused}
-use Rattle.drift.specs.Columns.{Columns, lengths, AllStored}
-use Rattle.drift.specs.ColumnLaws.{each, each-apply}
+use Rattle.drift.specs.Columns.{Columns, each, each-apply, lengths, AllStored}
 use Rattle.drift.specs.SegmentPromise.{segmentMeaning, SegmentPromise}
 
 module _ (v : Service) (ls : Lists) where

@@ -1,11 +1,12 @@
 // The segments of a trace, their outlooks, and the corners of the fit. Only the calls are open to outsiders.
-mod corner_trial; // corner_trial.rt: what Corners tries besides its lists
 mod filling; // filling.rt: every segment into the lent slices
-mod rows; // rows.rt: segments as rows of numbers, and rows into the lent slices
+mod segment_trial; // segment_trial.rt: what Segment tries besides its lists
 
 ghost use Rattle.drift.specs.Columns.{columns};
 ghost use Rattle.drift.specs.SegmentPromise.{SegmentPromise};
 ghost use Rattle.drift.specs.CornersPromise.{CornersPromise};
+use definitions::limits::CORNER_ROOM;
+use definitions::limits::MOST_RANGES;
 
 // The number of segments, or the number of a refusal.
 pub enum SegmentAnswer {
@@ -13,7 +14,7 @@ pub enum SegmentAnswer {
     Refused(u8),
 }
 
-// Document 01's Segment.
+// The scope's Segment.
 pub fn segment(
     level: i32,
     times: &[u32],
@@ -33,7 +34,7 @@ pub fn segment(
 ) -> SegmentAnswer
     ensures { λ r. ⌜ SegmentPromise (record { level = level }) (record { times = now (times .entry); lows = now (lows .entry); highs = now (highs .entry) }) (columns (now («first_times» .entry)) (now («last_times» .entry)) (now (counts .entry)) (now («slow_ps» .entry)) (now («slow_qs» .entry)) (now («slow_ds» .entry)) (now («fast_ps» .entry)) (now («fast_qs» .entry)) (now («fast_ds» .entry)) (now (somes .entry)) (now (alls .entry))) (columns (now («first_times» .exit)) (now («last_times» .exit)) (now (counts .exit)) (now («slow_ps» .exit)) (now («slow_qs» .exit)) (now («slow_ds» .exit)) (now («fast_ps» .exit)) (now («fast_qs» .exit)) (now («fast_ds» .exit)) (now (somes .exit)) (now (alls .exit))) r ⌝ }
 {
-    let short = rows::too_short(
+    let short = segment_trial::too_short(
         first_times.len(),
         last_times.len(),
         counts.len(),
@@ -79,7 +80,7 @@ pub enum CornersAnswer {
     Refused(u8),
 }
 
-// Document 01's Corners after the first k ranges.
+// The scope's Corners after the first k ranges.
 pub fn corners(
     k: usize,
     times: &[u32],
@@ -91,18 +92,18 @@ pub fn corners(
 ) -> CornersAnswer
     ensures { λ r. ⌜ CornersPromise k (record { times = now (times .entry); lows = now (lows .entry); highs = now (highs .entry) }) (now (ps .entry)) (now (qs .entry)) (now (ds .entry)) (now (ps .exit)) (now (qs .exit)) (now (ds .exit)) r ⌝ }
 {
-    let short = corner_trial::too_short(ps.len(), qs.len(), ds.len());
+    let short = trial::three_short(CORNER_ROOM, ps.len(), qs.len(), ds.len());
     let number = trial::try_lists(short, false, times, lows, highs);
     if number != 0 {
         return CornersAnswer::Refused(number);
     }
-    if corner_trial::count_outside(k, times.len()) {
+    if trial::count_outside(k, times.len()) {
         return CornersAnswer::Refused(9);
     }
-    let mut up_times = [0u32; 4096];
-    let mut up_values = [0i32; 4096];
-    let mut down_times = [0u32; 4096];
-    let mut down_values = [0i32; 4096];
+    let mut up_times = [0u32; MOST_RANGES];
+    let mut up_values = [0i32; MOST_RANGES];
+    let mut down_times = [0u32; MOST_RANGES];
+    let mut down_values = [0i32; MOST_RANGES];
     let found = fit::last_run::last_run(
         times,
         highs,

@@ -1,7 +1,7 @@
 -- Times and values as i64 code reads them out of u32 and i32: what is read is the number that stands there, and within its span.
 --
 --     Clock t                 t is a time: from 0 to 4,294,967,295
---     InSpan vs a b           every entry from a up to b is within document 01's span of values
+--     InSpan vs a b           every entry from a up to b is within the scope's span of values
 --     span-part, span-push, span-alone, span-two   of fewer entries; after a store at the end; after the first one, two are stored
 --     rd z                    an i64 as the machine reads it back
 --     narrow-is               an i32 within the span is read back as it is

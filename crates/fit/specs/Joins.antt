@@ -17,7 +17,7 @@ use lib.Signed.{leZ, ltZ}
 use Rattle.integers.specs.Bounds.{Within}
 use Rattle.definitions.specs.Spans.{mostValue}
 use Rattle.trial_laws.specs.Accepted.{ProperRange}
-use Rattle.chains.specs.Points.{gap, through, Point as Point01}
+use Rattle.chains.specs.Points.{gap, through, Point as PointTerm}
 use Rattle.chains.specs.Ends.{H, L}
 use Rattle.chains.specs.Start.{start, startWith}
 use Rattle.chains.specs.PopEnd.{popAbove, popBelow, popSpot, popJoin}
@@ -186,7 +186,7 @@ module _ {r s : Range} (pr : ProperRange (rangeOf r)) (ps : ProperRange (rangeOf
   abbrev entries : ℕ → Polygon
   entries n = record { upper = record { start = 0; end = n }; lower = record { start = 0; end = n }; slow = v; fast = y }
 
-  started : (up′ down′ : Chain) (n : ℕ) {us ls : List Point01} → n ≤ 2 → Held (record { start = 0; end = n }) up′ → Held (record { start = 0; end = n }) down′
+  started : (up′ down′ : Chain) (n : ℕ) {us ls : List PointTerm} → n ≤ 2 → Held (record { start = 0; end = n }) up′ → Held (record { start = 0; end = n }) down′
       → between (ofChain false up′) 0 n ≡ us → between (ofChain false down′) 0 n ≡ ls → start (rangeOf r) (rangeOf s) ≡ startWith us ls (rangeOf r) (rangeOf s)
       → {x : Polygon} → x ≡ entries n → StartedAt r s up′ down′ x
   started up′ down′ n h hu hd p q m o =

@@ -25,7 +25,7 @@ use Rattle.integers.specs.Bounds.{Within, in-sub, in-mul, in-wide, in-neg}
 use Rattle.integers.specs.Quotes.{quotes}
 use Rattle.integers.specs.Machine.{Env, _▹_, end, upto, machine-value!, reads}
 use Rattle.definitions.specs.Spans.{mostValue, mostTime}
-use Rattle.chains.specs.Points.{gap, through, turn, Point as Point01}
+use Rattle.chains.specs.Points.{gap, through, turn, Point as PointTerm}
 use Rattle.drift_laws.specs.RangeEnds.{inMirror, endOf}
 use Rattle.drift_laws.specs.EndReads.{Clock, rd, clock-in, apart, ends-env, time-clock, mirror-in}
 use Rattle.values.specs.declared.Line.{Line}
@@ -35,14 +35,14 @@ use Rattle.fit.specs.declared.points.Point.{Point}
 use Rattle.fit.specs.declared.ends.End.{End}
 use Rattle.fit.specs.RangesByValue.{at}
 
-abbrev pub pointOf : Point → Point01
+abbrev pub pointOf : Point → PointTerm
 pointOf a = record { t = a .t; u = a .u }
 
 pub record Proper (a : Point) : Type 0 where
   pub clock : Clock (a .t)
   pub in-span : Within mostValue (a .u)
 
-pub record PointIs (N : Point01) (r : Point) : Type 0 where
+pub record PointIs (N : PointTerm) (r : Point) : Type 0 where
   pub is : pointOf r ≡ N
   pub proper : Proper r
 
@@ -107,7 +107,7 @@ line-through a b h p q d x y z =
 pub height-test : (test : ℤ → Bool) (l : Line) (a : Point) (g : ℤ) → g ≡ gap (lineOf l) (pointOf a) → mag g < 2 ^ 63 → test (rd g) ≡ test (gap (lineOf l) (pointOf a))
 height-test test l a g e k = ap test (toZ-ofZ {w = w64} {z = g} (record { sfits = k }) ∙ e)
 
-pub joined-told : {A B : Point01} {a b : Point} (n : Point) {r : Bool} → PointIs A a → PointIs B b → r ≡ leZ (pos 0) (gap (through (pointOf a) (pointOf b)) (pointOf n)) → r ≡ leZ (pos 0) (gap (through A B) (pointOf n))
+pub joined-told : {A B : PointTerm} {a b : Point} (n : Point) {r : Bool} → PointIs A a → PointIs B b → r ≡ leZ (pos 0) (gap (through (pointOf a) (pointOf b)) (pointOf n)) → r ≡ leZ (pos 0) (gap (through A B) (pointOf n))
 joined-told n p q e = e ∙ ap₂ (λ X Y. leZ (pos 0) (gap (through X Y) (pointOf n))) (p .is) (q .is)
 
 -- ---- the mirror image

@@ -10,7 +10,7 @@
 use mathlib.Core.Path.{_≡_, sym, _∙_, ap, ap₂}
 use mathlib.Core.Bool.{Bool}
 use Prim.Native.Nat.{ℕ, _-_, _<_, _≤_}
-use Rattle.chains.specs.Points.{through, Point as Point01}
+use Rattle.chains.specs.Points.{through, Point as PointTerm}
 use Rattle.chains.specs.Chain.{headOf, lastOf, Polygon as Chains}
 use Rattle.chains.specs.Cut.{dropOver}
 use Rattle.chains.specs.Pop.{popEnd}
@@ -50,7 +50,7 @@ pub record Few (x : Polygon) (m : ℕ) : Type 0 where
   pub down-to : x .lower .end ≤ m
 
 -- ---- shortened at a point
-pub record TrimmedAt (flip : Bool) (up down : Chain) (upper lower : Part) (N : Point01) (r : Trimmed) : Type 0 where
+pub record TrimmedAt (flip : Bool) (up down : Chain) (upper lower : Part) (N : PointTerm) (r : Trimmed) : Type 0 where
   pub pops : PoppedTo (ofChain flip up) N (upper .start) (upper .end) (r .end)
   pub drops : DroppedTo (ofChain flip down) N (lower .start) (lower .end) (r .start)
   pub slow-is : lineOf (r .slow) ≡ through (lastOf (popEnd N (between (ofChain flip up) (upper .start) (upper .end)))) N

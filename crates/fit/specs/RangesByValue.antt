@@ -1,6 +1,6 @@
 -- Ranges and their ends by value, as code holds them.
 --
---     rangeOf r              document 01's range
+--     rangeOf r              the scope's range
 --     highOf r, lowOf r      its high end and its low end
 --     at flip e              an end as a point, in the mirror where flip holds
 --     putEnd c m e           an end stored at the place m of a chain
@@ -16,7 +16,7 @@ use mathlib.Core.Bool.{Bool, false}
 use Prim.Native.Nat.{ℕ, _<_}
 use native.Mathlib.Omega.{arith}
 use lib.ListN.{length}
-use Rattle.definitions.specs.Ranges.{Lists, Range as Range01}
+use Rattle.definitions.specs.Ranges.{Lists, Range as RangeTerm}
 use Rattle.integers.specs.Bounds.{Within}
 use Rattle.definitions.specs.Spans.{mostValue}
 use Rattle.trial_laws.specs.RangeLists.{rangeAt}
@@ -28,7 +28,7 @@ use Rattle.drift_laws.specs.ChainParts.{Chain, store}
 use Rattle.fit.specs.declared.ends.Range.{Range}
 use Rattle.fit.specs.declared.ends.End.{End}
 
-abbrev pub rangeOf : Range → Range01
+abbrev pub rangeOf : Range → RangeTerm
 rangeOf r = record { time = r .time; low = r .low; high = r .high }
 
 abbrev pub highOf : Range → End

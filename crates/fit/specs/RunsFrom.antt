@@ -19,7 +19,7 @@ use native.Mathlib.Omega.{arith}
 use lib.ListN.{length}
 use lib.IntN.{pos}
 use lib.Signed.{leZ, ltZ, _<ℤ_}
-use Rattle.definitions.specs.Ranges.{Lists, Range as Range01}
+use Rattle.definitions.specs.Ranges.{Lists, Range as RangeTerm}
 use Rattle.definitions.specs.Fit.{HasLine, Ordered}
 use Rattle.trial_laws.specs.RangeLists.{rangeAt}
 use Rattle.trial_laws.specs.Accepted.{AcceptedLists}
@@ -45,13 +45,13 @@ use Rattle.fit.specs.Joins.{JoinedAt, StartedAt}
 
 -- ---- whether a range closes the run
 -- slow is above its high end, fast is at or above its low end
-abbrev slowOver : Line → Range01 → Bool
+abbrev slowOver : Line → RangeTerm → Bool
 slowOver l w = ltZ (pos 0) (gap (lineOf l) (H w))
 
-abbrev fastReaches : Line → Range01 → Bool
+abbrev fastReaches : Line → RangeTerm → Bool
 fastReaches l w = leZ (pos 0) (gap (lineOf l) (L w))
 
-pub record Closing (slow fast : Line) (w : Range01) (r : Bool) : Type 0 where
+pub record Closing (slow fast : Line) (w : RangeTerm) (r : Bool) : Type 0 where
   pub closes : r ≡ true → (slowOver slow w ≡ true) ⊎ (fastReaches fast w ≡ false)
   pub joins : r ≡ false → (slowOver slow w ≡ false) × (fastReaches fast w ≡ true)
 

@@ -1,4 +1,4 @@
--- What the library promises: the number that each call gives and the contents of everything that it was lent, by equations with document 01's calls.
+-- What the library promises: the number that each call gives and the contents of everything that it was lent, by equations with the scope's calls.
 --
 --     given                                                what a lent number holds after a call
 --     Counts                                               the number and the lent count after a call with a count

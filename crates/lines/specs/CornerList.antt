@@ -1,4 +1,4 @@
--- The list `corners rs` of the definitions is what document 01 says of corners. All of it is for ranges rs with rising times, given a list ls of the corners in any terms (`CornersOf rs ls`).
+-- The list `corners rs` of the definitions is what the scope says of corners. All of it is for ranges rs with rising times, given a list ls of the corners in any terms (`CornersOf rs ls`).
 --
 --     extreme-idle           every fitting line through two ends is a corner, so `extreme` removes none
 --     fitting-members        the entries of `fitting rs` are the lines of ls in lowest terms

@@ -1,18 +1,18 @@
 -- The times of an outlook. *Some* and *all* are searched on a finite list of lines of the fit; they are the least times at which one line, every line of the whole fit is at or above the level. Each is also the time at which one line reaches the level: the fast line for *some*, the slow line for *all*.
 --
---     reachTime level from l               the first time from `from` on at which l reaches the level, by a quotient, or none
+--     reachTime v from l                   the first time from `from` on at which l reaches the level, by a quotient, or none
 --     reachTime-least, reachTime-same      it is the least; it is the same of every p, q, d that is the same line
---     DecidedBy level l from test P        from `from` on, the test passes, and P holds, exactly where l reaches the level
+--     DecidedBy v l from test P            from `from` on, the test passes, and P holds, exactly where l reaches the level
 --     decided-ends                         then the test passes at an end of its span if it passes at all
 --     decided-least, decided-reach         so the first time at which it passes is the least of which P holds, and is l's reachTime
 --     ExtremesOf rs from slow fast         from `from` on, slow is lowest of the lines of the fit and fast is highest
 --     Listed rs slow fast ls               ls are lines of the fit, with both among them
 --     some-decided, all-decided            then fast decides the test of *some* on ls, and slow that of *all*
---     some-least, all-least                so each is the least time of document 01, and none exactly if there is no such time
+--     some-least, all-least                so each is the least time of the scope, and none exactly if there is no such time
 --     some-by-fast, all-by-slow            and each is the reachTime of one line
 --     outlook-is, outlook-reduced          the whole outlook, where slow and fast are the first and the last of the fitting lines
 --
--- Example: with e : ExtremesOf rs from slow fast and k : Listed rs slow fast ls, `some-least e k level : IsLeast (SomeReaches rs level) from mostTime (someTime level from ls)`.
+-- Example: with e : ExtremesOf rs from slow fast and k : Listed rs slow fast ls, `some-least e k v : IsLeast (SomeReaches rs v) from mostTime (someTime v from ls)`.
 -- Assumes nothing.
 use mathlib.Core.Path.{_≡_, refl, sym, ap, ap₂, _∙_, subst}
 use mathlib.Core.Logic.{_⊎_, inl, inr, _↔_}

@@ -2,7 +2,7 @@
 --
 --     first-last                 the first and the last of the fitting lines are the polygon's slow and fast line
 --     outlook-by-lines           the outlook is these two in lowest terms, with the time at which fast reaches the level and the time at which slow does
---     OutlookMeans, outlook-means   the slow line has the least slope of the whole fit and the fast line the greatest; *some* and *all* are the least times of document 01, over all lines of the fit
+--     OutlookMeans, outlook-means   the slow line has the least slope of the whole fit and the fast line the greatest; *some* and *all* are the least times of the scope, over all lines of the fit
 --
 -- Assumes nothing.
 use mathlib.Core.Path.{_≡_, refl, sym, subst}

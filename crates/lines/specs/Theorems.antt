@@ -1,4 +1,4 @@
--- The front page: what document 01's definitions mean. Ranges are ordered, as those of every accepted trace are; p, q and d of a line are of any size, d above 0.
+-- The front page: what the scope's definitions mean. Ranges are ordered, as those of every accepted trace are; p, q and d of a line are of any size, d above 0.
 --
 -- The fit
 --     has-line                   `hasLine` passes exactly if some line fits each of the ranges
@@ -47,7 +47,7 @@ use Rattle.splits.specs.Segments.{TimesOf, TwoWithout}
 use Rattle.splits.specs.Segments as Splits
 use Rattle.chains.specs.Results.{two-have-line}
 use Rattle.lines.specs.HasLine.{every-slope}
-use Rattle.lines.specs.CornerList as List01
+use Rattle.lines.specs.CornerList as Listing
 use Rattle.lines.specs.Polygon.{corners-of, decides, closes}
 
 -- ---- the fit
@@ -65,25 +65,25 @@ two-ranges = two-have-line
 
 module _ (r s : Range) (ws : List Range) (o : Ordered (r ∷ s ∷ ws)) (h : HasLine (r ∷ s ∷ ws)) where
   pub corners-exact : (l : Line) → In l (corners (r ∷ s ∷ ws)) ↔ (Corner (r ∷ s ∷ ws) l × InLowestTerms (l .p) (l .q) (l .d))
-  corners-exact = List01.corners-exact o (corners-of r s ws o h)
+  corners-exact = Listing.corners-exact o (corners-of r s ws o h)
 
   pub corners-ordered : InCornerOrder (corners (r ∷ s ∷ ws))
-  corners-ordered = List01.corners-ordered o (corners-of r s ws o h)
+  corners-ordered = Listing.corners-ordered o (corners-of r s ws o h)
 
   pub corners-once : List·Nodup (corners (r ∷ s ∷ ws))
-  corners-once = List01.corners-once o (corners-of r s ws o h)
+  corners-once = Listing.corners-once o (corners-of r s ws o h)
 
   pub corners-count : length (corners (r ∷ s ∷ ws)) ≤ 2 * length (r ∷ s ∷ ws)
-  corners-count = List01.corners-count o (corners-of r s ws o h)
+  corners-count = Listing.corners-count o (corners-of r s ws o h)
 
   pub corners-unique : (ks : List Line) → InCornerOrder ks → ((l : Line) → In l ks ↔ (Corner (r ∷ s ∷ ws) l × InLowestTerms (l .p) (l .q) (l .d))) → ks ≡ corners (r ∷ s ∷ ws)
-  corners-unique = List01.corners-unique o (corners-of r s ws o h)
+  corners-unique = Listing.corners-unique o (corners-of r s ws o h)
 
   pub corners-fit : All (InFit (r ∷ s ∷ ws)) (corners (r ∷ s ∷ ws))
   corners-fit = All-of (corners (r ∷ s ∷ ws)) (λ l i. corners-exact l .0 i .0 .fit)
 
   pub corners-mean : (l : Line) → InFit (r ∷ s ∷ ws) l → WeightedMean (corners (r ∷ s ∷ ws)) l
-  corners-mean = List01.corners-mean o (corners-of r s ws o h)
+  corners-mean = Listing.corners-mean o (corners-of r s ws o h)
 
 -- ---- the segments
 

@@ -1,4 +1,4 @@
-// What the definitions of document 01 mean. All of it stands in specs/; a crate has at least one function, and this is it.
+// What the definitions of the scope mean. All of it stands in specs/; a crate has at least one function, and this is it.
 ghost use mathlib.Core.Path.{_≡_};
 
 pub fn same(x: u8) -> u8

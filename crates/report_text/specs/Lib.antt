@@ -2,8 +2,6 @@ pub mod Given
 pub mod Lines
 pub mod RowLaws
 pub mod Short
-pub mod GivenLaws
-pub mod BackLaws
 pub mod SegmentText
 pub mod ReadTraces
 pub mod ReportPromise

@@ -1,8 +1,6 @@
 -- The lines of a report by the numbers that code has at hand.
 --
---     numbersFrom            eleven numbers, in the slices' order
 --     lineBytes              a word and a line's three numbers
---     outlookBytes           the outlook of eight numbers
 --     RowsReady              the slices have the rows that are to be told, and the text has room for their lines
 --     listsText              the report of lists: of their segments, or of the number that turns them down
 --
@@ -13,21 +11,15 @@ use lib.IntN.{ℤ}
 use lib.ListN.{length, replicate}
 use Rattle.definitions.specs.Spans.{segmentRoom}
 use Rattle.definitions.specs.Ranges.{Lists}
-use Rattle.definitions.specs.Results.{Segment, Numbers}
+use Rattle.definitions.specs.Lines.{Line}
+use Rattle.definitions.specs.Results.{Segment}
 use Rattle.definitions.specs.Answers.{Answer, refused, accepted}
 use Rattle.definitions.specs.Calls.{segmentCall}
-use Rattle.definitions.specs.Report.{labelled, signedDecimal, outlookText, refusedLine, traceLine, segmentLines}
+use Rattle.definitions.specs.Report.{labelled, signedDecimal, refusedLine, traceLine, segmentLines}
 use Rattle.drift.specs.Columns.{Columns, Room}
-use Rattle.report_text.specs.Given.{outlookFrom}
 
-unfoldable pub numbersFrom : ℕ → ℕ → ℕ → ℤ → ℤ → ℤ → ℤ → ℤ → ℤ → ℕ → ℕ → Numbers
-numbersFrom a b c k l m u v w x y = record { firstTime = a; lastTime = b; count = c; slowP = k; slowQ = l; slowD = m; fastP = u; fastQ = v; fastD = w; some = x; all = y }
-
-unfoldable pub lineBytes : List ℕ → ℤ → ℤ → ℤ → List ℕ
-lineBytes word p q d = (word ++ signedDecimal p) ++ labelled " " (signedDecimal q) ++ labelled " " (signedDecimal d)
-
-unfoldable pub outlookBytes : ℤ → ℤ → ℤ → ℤ → ℤ → ℤ → ℕ → ℕ → List ℕ
-outlookBytes k l m u v w x y = outlookText (outlookFrom (numbersFrom 0 0 0 k l m u v w x y))
+unfoldable pub lineBytes : List ℕ → Line → List ℕ
+lineBytes word l = (word ++ signedDecimal (l .p)) ++ labelled " " (signedDecimal (l .q)) ++ labelled " " (signedDecimal (l .d))
 
 -- a line has at most 256 bytes
 pub record RowsReady (from rows : ℕ) (text : List ℕ) (cs : Columns) : Type 0 where

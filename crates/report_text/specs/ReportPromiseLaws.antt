@@ -21,7 +21,7 @@ use mir.Syntax.{w32}
 use mir.Val.{toZ, ofZ}
 use mir.Facts.{toZ-ofZ}
 use Rattle.integers.specs.Lists.{any}
-use Rattle.definitions.specs.Spans.{readRoom}
+use Rattle.definitions.specs.Spans.{mostRanges, readRoom}
 use Rattle.definitions.specs.Answers.{Answer, refused, accepted, _>>=_, firstRow, filled}
 use Rattle.definitions.specs.Trial.{tooShort}
 use Rattle.definitions.specs.TraceFile.{Trace, readFile}
@@ -130,11 +130,11 @@ module _ {file times₀ times : List ℕ} {lows₀ lows highs₀ highs : List �
 
 -- ---- slices of zeros, as the report lends them
 
-pub zero-room : tooShort readRoom (length (replicate {A = ℕ} 4096 0) ∷ length (replicate {A = ℤ} 4096 (pos 0)) ∷ length (replicate {A = ℤ} 4096 (pos 0)) ∷ []) ≡ false
+pub zero-room : tooShort readRoom (length (replicate {A = ℕ} mostRanges 0) ∷ length (replicate {A = ℤ} mostRanges (pos 0)) ∷ length (replicate {A = ℤ} mostRanges (pos 0)) ∷ []) ≡ false
 unfolding tooShort any
 zero-room =
-    let time = length-replicate {A = ℕ} 4096 0 in
-    let value = length-replicate {A = ℤ} 4096 (pos 0) in
+    let time = length-replicate {A = ℕ} mostRanges 0 in
+    let value = length-replicate {A = ℤ} mostRanges (pos 0) in
     λ i. tooShort readRoom (time i ∷ value i ∷ value i ∷ [])
 
 -- ---- what a caller may rely on

@@ -12,11 +12,12 @@ use native.Mathlib.Omega.{arith}
 use native.Mathlib.Numerals.{add-one}
 use lib.ListN.{length}
 use Rattle.definitions.specs.Report.{segmentLine}
-use Rattle.drift.specs.Columns.{Columns}
+use Rattle.values.specs.Rows.{segmentFrom}
+use Rattle.drift.specs.Columns.{Columns, rowAt}
 use Rattle.fields.specs.SpliceLaws.{splice-in}
 use Rattle.text.specs.Put.{Put}
 use Rattle.text.specs.PutLaws.{put-length, put-then}
-use Rattle.report_text.specs.Given.{rowAt, segmentFrom, linesFrom}
+use Rattle.report_text.specs.Given.{linesFrom}
 use Rattle.report_text.specs.Lines.{RowsReady}
 
 pub record Told (from : ℕ) (cs : Columns) (rows : ℕ) (old : List ℕ) (j at : ℕ) (text : List ℕ) : Type 0 where

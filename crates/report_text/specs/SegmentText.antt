@@ -1,7 +1,7 @@
 -- From what Segment promises to the lines of the report.
 --
 --     lines-given            the rows in the slices, told one after the other, are the lines of the segments
---     rows-given, few-given  the slices have as many rows as Segment gave, and there are at most 2,048
+--     few-given              there are at most as many rows as a slice has room for
 --     zeroColumns, zero-lengths     the slices before the call
 --     text-accepted, text-refused   the report of lists, where Segment accepted them and where it did not
 --
@@ -23,14 +23,14 @@ use Rattle.definitions.specs.Report.{refusedLine, traceLine, segmentLine, segme
 use Rattle.trial_laws.specs.CallLaws.{bind-refused}
 use Rattle.trial_laws.specs.RangeLists.{ranges-length}
 use Rattle.lines.specs.Theorems.{segments-room}
+use Rattle.values.specs.Rows.{segmentFrom}
+use Rattle.values.specs.RowLaws.{rows-back}
 use Rattle.drift.specs.declared.SegmentAnswer.the-variants.{Accepted, Refused}
-use Rattle.drift.specs.Columns.{Columns, columns, Room, lengths}
-use Rattle.drift.specs.ColumnLaws.{each, each-apply}
+use Rattle.drift.specs.Columns.{Columns, columns, rowAt, lengths}
 use Rattle.drift.specs.SegmentPromise.{segmentMeaning, SegmentPromise}
-use Rattle.drift.specs.GivenColumns.{called, taken, ordered, count-is, column-room, column-at}
-use Rattle.report_text.specs.Given.{rowAt, segmentFrom, linesFrom}
+use Rattle.drift.specs.GivenColumns.{called, taken, taken-few, ordered, count-is, row-at}
+use Rattle.report_text.specs.Given.{linesFrom}
 use Rattle.report_text.specs.Lines.{answerText, listsText}
-use Rattle.report_text.specs.BackLaws.{segments-back}
 
 -- ---- lists
 
@@ -46,14 +46,14 @@ lines-snoc place (t ∷ ss) s =
 
 abbrev pub zeroColumns : Columns
 zeroColumns =
-    let counts : List ℕ = replicate 2048 0 in
-    let values : List ℤ = replicate 2048 (pos 0) in
+    let counts : List ℕ = replicate segmentRoom 0 in
+    let values : List ℤ = replicate segmentRoom (pos 0) in
     columns counts counts counts values values values values values values counts counts
 
 pub zero-lengths : lengths zeroColumns ≡ replicate 11 segmentRoom
 zero-lengths =
-    let count : length (replicate {A = ℕ} 2048 0) ≡ 2048 = length-replicate {A = ℕ} 2048 0 in
-    let value : length (replicate {A = ℤ} 2048 (pos 0)) ≡ 2048 = length-replicate {A = ℤ} 2048 (pos 0) in
+    let count : length (replicate {A = ℕ} segmentRoom 0) ≡ segmentRoom = length-replicate {A = ℕ} segmentRoom 0 in
+    let value : length (replicate {A = ℤ} segmentRoom (pos 0)) ≡ segmentRoom = length-replicate {A = ℤ} segmentRoom (pos 0) in
     λ i. count i ∷ count i ∷ count i ∷ value i ∷ value i ∷ value i ∷ value i ∷ value i ∷ value i ∷ count i ∷ count i ∷ []
 
 -- ---- where Segment accepted
@@ -69,35 +69,14 @@ module _ {v : Service} {ls : Lists} {old new : Columns} {n : ℕ} (promise : Seg
   unfolding segmentsOf
   few-given =
       let lists = taken promise in
-      omega (arith, count-is promise, length-map (segments rs) (segmentOf v), segments-room rs (ordered promise) (omega (arith, lists .few, ranges-length ls (lists .same))))
-
-  row-at : (j : ℕ) → j < n → rowAt new j ≡ numbersOf (getD ss j (segmentOf v []))
-  unfolding rowAt
-  row-at j h =
-      let c = promise .columns-are in
-      λ i. record {
-        firstTime = column-at promise (λ m. m .firstTime) (new .firstTimes) (old .firstTimes) (c .first-times) j h 0 i;
-        lastTime = column-at promise (λ m. m .lastTime) (new .lastTimes) (old .lastTimes) (c .last-times) j h 0 i;
-        count = column-at promise (λ m. m .count) (new .counts) (old .counts) (c .counts) j h 0 i;
-        slowP = column-at promise (λ m. m .slowP) (new .slowPs) (old .slowPs) (c .slow-ps) j h (pos 0) i;
-        slowQ = column-at promise (λ m. m .slowQ) (new .slowQs) (old .slowQs) (c .slow-qs) j h (pos 0) i;
-        slowD = column-at promise (λ m. m .slowD) (new .slowDs) (old .slowDs) (c .slow-ds) j h (pos 0) i;
-        fastP = column-at promise (λ m. m .fastP) (new .fastPs) (old .fastPs) (c .fast-ps) j h (pos 0) i;
-        fastQ = column-at promise (λ m. m .fastQ) (new .fastQs) (old .fastQs) (c .fast-qs) j h (pos 0) i;
-        fastD = column-at promise (λ m. m .fastD) (new .fastDs) (old .fastDs) (c .fast-ds) j h (pos 0) i;
-        some = column-at promise (λ m. m .some) (new .somes) (old .somes) (c .somes) j h 0 i;
-        all = column-at promise (λ m. m .all) (new .alls) (old .alls) (c .alls) j h 0 i;
-      }
-
-  pub rows-given : Room n new
-  rows-given = each-apply (each (λ A number column e. column-room promise number (column new) (column old) e)) (promise .columns-are)
+      omega (arith, count-is promise, length-map (segments rs) (segmentOf v), segments-room rs (ordered promise) (omega (arith, taken-few promise, ranges-length ls (lists .same))))
 
   lines-so-far : (k : ℕ) → k ≤ n → linesFrom new k ≡ segmentLines 1 (take k ss)
   unfolding linesFrom segmentLines
   lines-so-far zero h = refl
   lines-so-far (suc k) h =
       let s = getD ss k (segmentOf v []) in
-      let line : segmentFrom (rowAt new k) ≡ s = ap segmentFrom (row-at k (omega arith)) ∙ segments-back v rs (ordered promise) k in
+      let line : segmentFrom (rowAt new k) ≡ s = ap segmentFrom (row-at promise k (omega arith)) ∙ rows-back v rs (ordered promise) k in
       let long : 1 + length (take k ss) ≡ suc k = omega (arith, length-take-le k ss (omega (arith, count-is promise, h))) in
       ap₂ (λ front t. front ++ segmentLine (suc k) t) (lines-so-far k (omega arith)) line
       ∙ ap (λ m. segmentLines 1 (take k ss) ++ segmentLine m s) (sym long)

@@ -1,27 +1,24 @@
 -- No line of a report has more than 256 bytes.
 --
---     refused-short, heading-short, segment-short    the three kinds of lines, of numbers that fit their types
+--     LineFits, OutlookFits  numbers that fit their types
+--     refused-short, heading-short, segment-short    the three kinds of lines, of such numbers
 --
 -- Assumes nothing.
 use Prim.Native.Nat.{ℕ, _+_, _≤_}
 use Prim.Native.String.{String}
-use mathlib.Core.Bool.{Bool, true, false, cond}
 use mathlib.Core.List.{List, _++_}
 use native.Mathlib.Omega.{arith}
-use lib.Dec.{eqb}
-use lib.IntN.{ℤ, pos}
+use lib.IntN.{ℤ}
 use lib.ListN.{length, length-append}
-use lib.Signed.{ltZ}
 use mir.Syntax.{w8, w16, w32, w64}
 use mir.Val.{Fits, SFits}
-use Rattle.definitions.specs.Times.{none, at}
+use Rattle.definitions.specs.Times.{Time, none, at}
 use Rattle.definitions.specs.Lines.{Line}
-use Rattle.definitions.specs.Outlook.{open-strip, lines}
+use Rattle.definitions.specs.Outlook.{Outlook, open-strip, lines}
+use Rattle.definitions.specs.Results.{Segment}
 use Rattle.definitions.specs.Report.{ascii, labelled, decimal, signedDecimal, timeText, lineText, outlookText, spanText, segmentLine, traceLine, refusedLine}
 use Rattle.text.specs.DecimalLaws.{decimal-long}
 use Rattle.text.specs.SignLaws.{signed-long}
-use Rattle.report_text.specs.Given.{timeFrom, outlookFrom, segmentFrom}
-use Rattle.report_text.specs.Lines.{numbersFrom}
 
 -- ---- pieces
 
@@ -34,13 +31,15 @@ short32 n h = decimal-long 9 n (omega (arith, h .fits))
 short64 : (n : ℕ) → Fits w64 n → length (decimal n) ≤ 20
 short64 n h = decimal-long 19 n (omega (arith, h .fits))
 
-time-short : (n : ℕ) → Fits w64 n → length (timeText (timeFrom n)) ≤ 20
-unfolding timeText timeFrom
-time-short n h = by (eqb n 4294967296)
-  where
-    by : (t : Bool) → length (timeText (cond t none (at n))) ≤ 20
-    by true = omega arith
-    by false = short64 n h
+-- a time has 32 bits
+abbrev TimeFits : Time → Type 0
+TimeFits none = Unit
+TimeFits (at t) = Fits w32 t
+
+time-short : (t : Time) → TimeFits t → length (timeText t) ≤ 10
+unfolding timeText
+time-short none h = omega arith
+time-short (at t) h = short32 t h
 
 pub record LineFits (l : Line) : Type 0 where
   pub p-fits : SFits w64 (l .p)
@@ -58,19 +57,24 @@ line-short word short l h =
     let d-short = joined 1 20 (ascii " ") (signedDecimal (l .d)) (omega arith) (signed-long (l .d) (h .d-fits)) in
     joined 47 21 (p ++ q) d (joined 26 21 p q p-short q-short) d-short
 
-outlook-short : (k l : Line) (x y : ℕ) → LineFits k → LineFits l → Fits w64 x → Fits w64 y → (t : Bool)
-    → length (outlookText (cond t (lines k l (timeFrom x) (timeFrom y)) open-strip)) ≤ 187
+-- an outlook of numbers that fit their types
+abbrev pub OutlookFits : Outlook → Type 0
+OutlookFits open-strip = Unit
+OutlookFits (lines k l x y) = LineFits k × LineFits l × TimeFits x × TimeFits y
+
+outlook-short : (o : Outlook) → OutlookFits o → length (outlookText o) ≤ 187
 unfolding outlookText
-outlook-short k l x y hk hl hx hy true =
+outlook-short open-strip h = omega arith
+outlook-short (lines k l x y) (hk, hl, hx, hy) =
     let slow = lineText " slow " k in
     let fast = lineText " fast " l in
-    let some = labelled " some " (timeText (timeFrom x)) in
-    let all = labelled " all " (timeText (timeFrom y)) in
-    let some-short = joined 6 20 (ascii " some ") (timeText (timeFrom x)) (omega arith) (time-short x hx) in
-    let all-short = joined 5 20 (ascii " all ") (timeText (timeFrom y)) (omega arith) (time-short y hy) in
+    let some = labelled " some " (timeText x) in
+    let all = labelled " all " (timeText y) in
+    let some-short = joined 6 10 (ascii " some ") (timeText x) (omega arith) (time-short x hx) in
+    let all-short = joined 5 10 (ascii " all ") (timeText y) (omega arith) (time-short y hy) in
     let both = joined 68 68 slow fast (line-short " slow " (omega arith) k hk) (line-short " fast " (omega arith) l hl) in
-    joined 162 25 (slow ++ fast ++ some) all (joined 136 26 (slow ++ fast) some both some-short) all-short
-outlook-short k l x y hk hl hx hy false = omega arith
+    let three = joined 136 16 (slow ++ fast) some both some-short in
+    omega (arith, joined 152 15 (slow ++ fast ++ some) all three all-short)
 
 span-short : (place first last count : ℕ) → Fits w32 place → Fits w32 first → Fits w32 last → Fits w32 count → length (spanText place first last count) ≤ 66
 unfolding spanText
@@ -107,24 +111,10 @@ heading-short address level ranges segments ha hl hr hs =
     let four-of = joined 74 30 (one ++ two ++ three) four (joined 46 28 (one ++ two) three (joined 19 27 one two one-short two-short) three-short) four-short in
     omega (arith, joined 104 1 (one ++ two ++ three ++ four) (ascii "\n") four-of (omega arith))
 
--- the numbers of a row, as they lie in their slices
-pub record RowFits (a b c : ℕ) (slow fast : Line) (x y : ℕ) : Type 0 where
-  pub first-fits : Fits w32 a
-  pub last-fits : Fits w32 b
-  pub count-fits : Fits w32 c
-  pub slow-fits : LineFits slow
-  pub fast-fits : LineFits fast
-  pub some-fits : Fits w64 x
-  pub all-fits : Fits w64 y
-
-abbrev line : ℤ → ℤ → ℤ → Line
-line p q d = record { p = p; q = q; d = d }
-
-pub segment-short : (place a b c : ℕ) (k l m u v w : ℤ) (x y : ℕ) → Fits w32 place → RowFits a b c (line k l m) (line u v w) x y
-    → length (segmentLine place (segmentFrom (numbersFrom a b c k l m u v w x y))) ≤ 256
-unfolding segmentLine segmentFrom outlookFrom numbersFrom
-segment-short place a b c k l m u v w x y hp h =
-    let outlook = cond (ltZ (pos 0) m) (lines (line k l m) (line u v w) (timeFrom x) (timeFrom y)) open-strip in
-    let span = span-short place a b c hp (h .first-fits) (h .last-fits) (h .count-fits) in
-    let both = joined 66 187 (spanText place a b c) (outlookText outlook) span (outlook-short (line k l m) (line u v w) x y (h .slow-fits) (h .fast-fits) (h .some-fits) (h .all-fits) (ltZ (pos 0) m)) in
-    omega (arith, joined 253 1 (spanText place a b c ++ outlookText outlook) (ascii "\n") both (omega arith))
+pub segment-short : (place : ℕ) (s : Segment) → Fits w32 place → Fits w32 (s .firstTime) → Fits w32 (s .lastTime) → Fits w32 (s .count) → OutlookFits (s .outlook) → length (segmentLine place s) ≤ 256
+unfolding segmentLine
+segment-short place s hp hf hl hc ho =
+    let span = spanText place (s .firstTime) (s .lastTime) (s .count) in
+    let outlook = outlookText (s .outlook) in
+    let both = joined 66 187 span outlook (span-short place (s .firstTime) (s .lastTime) (s .count) hp hf hl hc) (outlook-short (s .outlook) ho) in
+    omega (arith, joined 253 1 (span ++ outlook) (ascii "\n") both (omega arith))

@@ -3,6 +3,7 @@ mod report_lines; // report_lines.rt: the parts of a report's lines, and its lin
 mod trace_text; // trace_text.rt: the report of a trace that was read
 
 ghost use Rattle.report_text.specs.ReportPromise.{ReportPromise};
+use definitions::limits::MOST_RANGES;
 use report_lines::put_refused;
 use trace::ReadAnswer;
 use trace::read;
@@ -17,16 +18,16 @@ pub enum ReportAnswer {
     Refused(u8),
 }
 
-// Document 01's report of a file.
+// The scope's report of a file.
 pub fn report(file: &[u8], text: &mut [u8]) -> ReportAnswer
     ensures { λ r. ⌜ ReportPromise (now (file .entry)) (now (text .entry)) (now (text .exit)) r ⌝ }
 {
     if text.len() < REPORT_ROOM {
         return ReportAnswer::Refused(8);
     }
-    let mut times = [0u32; 4096];
-    let mut lows = [0i32; 4096];
-    let mut highs = [0i32; 4096];
+    let mut times = [0u32; MOST_RANGES];
+    let mut lows = [0i32; MOST_RANGES];
+    let mut highs = [0i32; MOST_RANGES];
     let answer = read(file, &mut times, &mut lows, &mut highs);
     match answer {
         ReadAnswer::Refused(number) => ReportAnswer::Accepted(put_refused(text, 0, number)),

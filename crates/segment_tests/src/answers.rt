@@ -2,11 +2,11 @@
 use crate::rows::OLD;
 use crate::rows::OLD_LONG;
 use crate::rows::OLD_SIGNED;
-use crate::rows::Row;
 use crate::rows::is_old;
 use crate::rows::mixed_row;
 use crate::rows::row_at;
 use crate::rows::tell_row;
+use definitions::limits::SEGMENT_ROOM;
 use drift::SegmentAnswer;
 use drift::segment;
 use testing::lists::lent_long_times;
@@ -15,15 +15,13 @@ use testing::lists::lent_times;
 use testing::telling::number;
 use testing::telling::say;
 use testing::telling::tell_kept;
+use values::rows::Row;
 
 // What was seen of the slices so far.
 struct Seen {
     digest: u64,
     kept: bool,
 }
-
-// The length of a slice to be filled.
-const ROOM: usize = 2048;
 
 // As many rows are written from the start on, and the last one.
 const SHOWN: usize = 6;
@@ -90,7 +88,7 @@ fn see_all(
         kept: true,
     };
     let mut k = 0;
-    while k < ROOM {
+    while k < SEGMENT_ROOM {
         let row = row_at(
             k,
             first_times,
@@ -114,17 +112,17 @@ fn see_all(
 // Calls Segment, and writes all there is to its answer. The slices are as long as they have to be, but for one of
 // them, counted from 0, that is one too short; from 11 on, none is.
 pub fn tell(short: usize, level: i32, times: &[u32], lows: &[i32], highs: &[i32]) {
-    let mut first_times = [OLD; ROOM];
-    let mut last_times = [OLD; ROOM];
-    let mut counts = [OLD; ROOM];
-    let mut slow_ps = [OLD_SIGNED; ROOM];
-    let mut slow_qs = [OLD_SIGNED; ROOM];
-    let mut slow_ds = [OLD_SIGNED; ROOM];
-    let mut fast_ps = [OLD_SIGNED; ROOM];
-    let mut fast_qs = [OLD_SIGNED; ROOM];
-    let mut fast_ds = [OLD_SIGNED; ROOM];
-    let mut somes = [OLD_LONG; ROOM];
-    let mut alls = [OLD_LONG; ROOM];
+    let mut first_times = [OLD; SEGMENT_ROOM];
+    let mut last_times = [OLD; SEGMENT_ROOM];
+    let mut counts = [OLD; SEGMENT_ROOM];
+    let mut slow_ps = [OLD_SIGNED; SEGMENT_ROOM];
+    let mut slow_qs = [OLD_SIGNED; SEGMENT_ROOM];
+    let mut slow_ds = [OLD_SIGNED; SEGMENT_ROOM];
+    let mut fast_ps = [OLD_SIGNED; SEGMENT_ROOM];
+    let mut fast_qs = [OLD_SIGNED; SEGMENT_ROOM];
+    let mut fast_ds = [OLD_SIGNED; SEGMENT_ROOM];
+    let mut somes = [OLD_LONG; SEGMENT_ROOM];
+    let mut alls = [OLD_LONG; SEGMENT_ROOM];
     let answer = segment(
         level,
         times,

@@ -2,6 +2,7 @@
 ghost use Prim.Native.Nat.{_<_, _≤_};
 use crate::lists::set_time;
 use crate::lists::set_value;
+use definitions::limits::MOST_RANGES;
 use fields::numbers::signed;
 
 pub enum Shape {
@@ -39,7 +40,7 @@ pub const LATE_FIRST: u64 = 4294963200;
 pub const WIDE_RAGGED: u64 = 1048575;
 
 // One range more than a trace may have.
-const MOST: usize = 4097;
+pub const MOST_MADE: usize = MOST_RANGES + 1;
 
 // The largest value, and how far 0 is above the least.
 const TOP: u64 = 268435456;
@@ -137,7 +138,7 @@ pub fn fill(
     highs: &mut [i32],
 ) {
     let mut k = 0;
-    while k < MOST {
+    while k < MOST_MADE {
         let b = band_of(shape, k as u64, gap);
         set_time(times, k, time(k as u64, first, gap, b.late));
         set_value(lows, k, value(b.low));

@@ -5,14 +5,20 @@ mod reads; // reads.rt: the trials of Read
 mod telling; // telling.rt: what is written of a trial
 mod writes; // writes.rt: the trials of Write
 
+use definitions::limits::READ_ROOM;
+use definitions::limits::WRITE_ROOM;
+
+// A file with a range field more than the largest.
+const ONE_TOO_MANY: usize = WRITE_ROOM + 15;
+
 fn main() {
-    let mut made = [0u8; 61466];
-    let mut times = [1u32; 4096];
-    let mut lows = [2i32; 4096];
-    let mut highs = [3i32; 4096];
+    let mut made = [0u8; ONE_TOO_MANY];
+    let mut times = [1u32; READ_ROOM];
+    let mut lows = [2i32; READ_ROOM];
+    let mut highs = [3i32; READ_ROOM];
     reads::sample(&mut made, &mut times, &mut lows, &mut highs);
     reads::sizes(&mut made, &mut times, &mut lows, &mut highs);
-    let mut file = [170u8; 61451];
+    let mut file = [170u8; WRITE_ROOM];
     writes::most_ranges(&times, &lows, &highs, &made, &mut file);
     reads::lengths();
     writes::values(&mut file);

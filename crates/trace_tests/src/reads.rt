@@ -10,6 +10,7 @@ use crate::telling::title;
 use crate::telling::title_of_three;
 use crate::telling::value_at;
 use crate::telling::wide;
+use definitions::limits::READ_ROOM;
 use fields::numbers::write_u8;
 use fields::parts::byte_at;
 use fields::parts::part;
@@ -137,13 +138,13 @@ fn read_into(times: &mut [u32], lows: &mut [i32], highs: &mut [i32]) {
 }
 
 pub fn lengths() {
-    let mut times = [1u32; 4097];
-    let mut lows = [2i32; 4097];
-    let mut highs = [3i32; 4097];
+    let mut times = [1u32; READ_ROOM + 1];
+    let mut lows = [2i32; READ_ROOM + 1];
+    let mut highs = [3i32; READ_ROOM + 1];
     read_into(&mut times, &mut lows, &mut highs);
-    let mut short_times = [1u32; 4095];
+    let mut short_times = [1u32; READ_ROOM - 1];
     read_into(&mut short_times, &mut lows, &mut highs);
-    let mut short_values = [2i32; 4095];
+    let mut short_values = [2i32; READ_ROOM - 1];
     read_into(&mut times, &mut short_values, &mut highs);
     read_into(&mut times, &mut lows, &mut short_values);
 }

@@ -6,6 +6,9 @@ use crate::telling::contents;
 use crate::telling::number;
 use crate::telling::signed_number;
 use crate::telling::title_of_three;
+use definitions::limits::MOST_RANGES;
+use definitions::limits::READ_ROOM;
+use definitions::limits::WRITE_ROOM;
 use fields::parts::part;
 use testing::lists::first_times;
 use testing::lists::first_values;
@@ -50,9 +53,9 @@ fn tell_same(a: &[u8], b: &[u8]) {
 
 // Reads what was written, and tells whether it is what was made.
 fn read_back(file: &[u8], made: &[u8]) {
-    let mut times = [1u32; 4096];
-    let mut lows = [2i32; 4096];
-    let mut highs = [3i32; 4096];
+    let mut times = [1u32; READ_ROOM];
+    let mut lows = [2i32; READ_ROOM];
+    let mut highs = [3i32; READ_ROOM];
     tell_same(file, made);
     say(b"  read:");
     tell_read(file, &mut times, &mut lows, &mut highs);
@@ -64,7 +67,7 @@ fn read_back(file: &[u8], made: &[u8]) {
 pub fn most_ranges(times: &[u32], lows: &[i32], highs: &[i32], made: &[u8], file: &mut [u8]) {
     title_of_three(b"write lists", times.len(), lows.len(), highs.len());
     tell_write(255, -268435456, times, lows, highs, file);
-    read_back(file, part(made, 0, 61451));
+    read_back(file, part(made, 0, WRITE_ROOM));
 }
 
 // ---- values at the ends of their spans, and past them
@@ -145,8 +148,8 @@ pub fn lists(file: &mut [u8]) {
 
 // a times and lows, and b highs, all 0.
 fn write_zeros(a: usize, b: usize, file: &mut [u8]) {
-    let times = [0u32; 4097];
-    let values = [0i32; 4097];
+    let times = [0u32; MOST_RANGES + 1];
+    let values = [0i32; MOST_RANGES + 1];
     title_of_three(b"write zeros", a, b, file.len());
     tell_write(
         1,
@@ -166,10 +169,10 @@ fn write_into(file: &mut [u8]) {
 }
 
 pub fn lengths() {
-    let mut least = [170u8; 61451];
+    let mut least = [170u8; WRITE_ROOM];
     write_into(&mut least);
-    let mut longer = [170u8; 61452];
+    let mut longer = [170u8; WRITE_ROOM + 1];
     write_into(&mut longer);
-    let mut short = [170u8; 61450];
+    let mut short = [170u8; WRITE_ROOM - 1];
     write_into(&mut short);
 }

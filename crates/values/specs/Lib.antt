@@ -6,3 +6,5 @@ pub mod Readings
 pub mod Sides
 pub mod Reach
 pub mod ReachLaws
+pub mod Rows
+pub mod RowLaws

@@ -1,4 +1,4 @@
--- When a line reaches a level, in document 01's terms.
+-- When a line reaches a level, in the scope's terms.
 --
 --     BelowAt l level t              the line is below the level at t
 --     lookAhead slow fast v last     the outlook of two lines, given in lowest terms: some when the fast one reaches the level, all when the slow one does

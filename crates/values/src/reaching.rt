@@ -14,8 +14,7 @@ use crate::Side;
 use crate::Time;
 use crate::lowest_terms::reduced;
 use crate::numbers::ceil_div;
-
-const MOST_TIME: i64 = 4294967295;
+use definitions::limits::MOST_TIME;
 
 impl Line {
     // Where the line is against the level at the time: p·t + q against d·level, so that nothing is divided.

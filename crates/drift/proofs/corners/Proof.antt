@@ -31,8 +31,8 @@ lists c = record { times = c .args .times .now; lows = c .args .lows .now; highs
 abbrev lengths : tie.Start → List ℕ
 lengths c = threeLengths (c .args .ps .now) (c .args .qs .now) (c .args .ds .now)
 
-too-short-requires : tie.Need-too-short-requires
-too-short-requires c κs = tt
+three-short-requires : tie.Need-three-short-requires
+three-short-requires c κs = tt
 
 try-lists-requires : tie.Need-try-lists-requires
 try-lists-requires c κs = tt
@@ -50,22 +50,25 @@ module _ (c : tie.After-try-lists) where
   number = c .try-lists .result
 
   abbrev rows : List Row
-  rows = trialRows (c .before .too-short .result) false (lists entry)
+  rows = trialRows (c .before .three-short .result) false (lists entry)
 
   number-is : refusal (firstRow rows) ≡ number
   number-is = sym (c .try-lists .ensures)
 
   one-holds : 0 < number → firstRow (cornerRows (lengths entry) (entry .args .k) (lists entry)) ≡ refused number
-  one-holds h = rows-refused (lengths entry) (entry .args .k) (lists entry) (c .before .too-short .ensures) (refusal-above (firstRow rows) number number-is h)
+  one-holds h = rows-refused (lengths entry) (entry .args .k) (lists entry) (c .before .three-short .ensures) (refusal-above (firstRow rows) number number-is h)
 
   none-holds : number ≡ 0 → firstRow rows ≡ accepted tt
-  none-holds e = refusal-zero rows (trial-numbered (c .before .too-short .result) false (lists entry)) .0 (number-is ∙ e)
+  none-holds e = refusal-zero rows (trial-numbered (c .before .three-short .result) false (lists entry)) .0 (number-is ∙ e)
 
   lists-accepted : number ≡ 0 → AcceptedLists (lists entry)
-  lists-accepted e = trial-zero (c .before .too-short .result) false (lists entry) .0 (number-is ∙ e) .2
+  lists-accepted e = trial-zero (c .before .three-short .result) false (lists entry) .0 (number-is ∙ e) .2
+
+  lists-few : number ≡ 0 → length (lists entry .times) ≤ mostRanges
+  lists-few e = trial-zero (c .before .three-short .result) false (lists entry) .0 (number-is ∙ e) .3
 
   room : number ≡ 0 → RowRoom cornerRoom (entry .args .ps .now) (entry .args .qs .now) (entry .args .ds .now)
-  room e = room-tested (entry .args .ps .now) (entry .args .qs .now) (entry .args .ds .now) (sym (c .before .too-short .ensures) ∙ trial-zero (c .before .too-short .result) false (lists entry) .0 (number-is ∙ e) .0)
+  room e = room-tested (entry .args .ps .now) (entry .args .qs .now) (entry .args .ds .now) (sym (c .before .three-short .ensures) ∙ trial-zero (c .before .three-short .result) false (lists entry) .0 (number-is ∙ e) .0)
 
 returns : tie.Need-returns
 returns c =
@@ -77,7 +80,7 @@ returns-2 c =
     let t = c .before .before .before in
     let s = entry t in
     promise-refused (s .args .k) (lists s) (s .args .ps .now) (s .args .qs .now) (s .args .ds .now) 9
-    (count-refused (lengths s) (s .args .k) (lists s) (t .before .too-short .ensures) (none-holds t (c .before .before .if1 .left)) (c .before .count-outside .ensures) (c .if2 .taken))
+    (count-refused (lengths s) (s .args .k) (lists s) (t .before .three-short .ensures) (none-holds t (c .before .before .if1 .left)) (c .before .count-outside .ensures) (c .if2 .taken))
 
 -- ---- where no row holds
 
@@ -95,13 +98,13 @@ module _ (c : tie.Else2) where
   good = lists-accepted tried zero
 
   passed : firstRow (cornerRows (lengths start) (start .args .k) (lists start)) ≡ accepted tt
-  passed = rows-passed (lengths start) (start .args .k) (lists start) (tried .before .too-short .ensures) (none-holds tried zero) (c .before .count-outside .ensures) (c .if2 .left)
+  passed = rows-passed (lengths start) (start .args .k) (lists start) (tried .before .three-short .ensures) (none-holds tried zero) (c .before .count-outside .ensures) (c .if2 .left)
 
   counted : (1 ≤ start .args .k) × (start .args .k ≤ length (start .args .times .now))
   counted = count-inside (start .args .k) (length (start .args .times .now)) .0 (sym (c .before .count-outside .ensures) ∙ c .if2 .left)
 
   few : start .args .k ≤ mostRanges
-  few = omega (arith, counted .1, good .few)
+  few = omega (arith, counted .1, lists-few tried zero)
 
 last-run-requires : tie.Need-last-run-requires
 last-run-requires c κs = let e = c .before .before .before .before in (good e, counted e .0, counted e .1, record { times-long = few e; values-long = few e }, record { times-long = few e; values-long = few e })
@@ -182,7 +185,7 @@ pub corners-spec : {M : Type 1} → statement M
 corners-spec =
     tie.close
     (tie.spec
-    too-short-requires
+    three-short-requires
     try-lists-requires
     returns
     count-outside-requires

@@ -10,7 +10,7 @@ use mir.Syntax.{w32}
 use mir.Val.{toZ, ofZ}
 use mir.Facts.{toZ-ofZ}
 use Rattle.definitions.specs.Services.{Service}
-use Rattle.definitions.specs.Spans.{segmentRoom}
+use Rattle.definitions.specs.Spans.{mostRanges, segmentRoom}
 use Rattle.definitions.specs.Ranges.{Lists, rangesOf}
 use Rattle.definitions.specs.Results.{segmentOf, segmentsOf}
 use Rattle.definitions.specs.Answers.{Row, refused, accepted, firstRow, refusal}
@@ -21,8 +21,8 @@ use Rattle.trial_laws.specs.RangeLists.{ranges-length}
 use Rattle.lines.specs.Theorems.{segments-room}
 use Rattle.definitions.specs.Segments.{segments}
 use Rattle.trial_laws.specs.Accepted.{AcceptedLists, trial-zero}
-use Rattle.drift.specs.Columns.{Columns, columns, lengths, AllStored}
-use Rattle.drift.specs.ColumnLaws.{room-less, room-tested}
+use Rattle.drift.specs.Columns.{Columns, columns, lengths, AllStored, room-tested}
+use Rattle.drift.specs.ColumnLaws.{room-less}
 use Rattle.drift.specs.SegmentPromiseLaws.{promise-refused, promise-accepted}
 use Rattle.drift.specs.Filling.{FillReady}
 use Rattle.drift.proofs.segment.Statement.{statement}
@@ -58,11 +58,10 @@ try-lists-requires c κs = tt
 -- ---- where the trial has answered
 
 -- at most 2,048 segments
-few : (v : Service) (ls : Lists) → AcceptedLists ls → length (segmentsOf v (rangesOf ls)) ≤ segmentRoom
+few : (v : Service) (ls : Lists) → AcceptedLists ls → length (ls .times) ≤ mostRanges → length (segmentsOf v (rangesOf ls)) ≤ segmentRoom
 unfolding segmentsOf
-few v ls a =
+few v ls a most =
     let long = ranges-length ls (a .same) in
-    let most = a .few in
     omega (arith, length-map (segments (rangesOf ls)) (segmentOf v), segments-room (rangesOf ls) (a .ranges .ordered) (omega arith))
 
 -- the trial's rows are the call's
@@ -93,10 +92,10 @@ module _ (c : tie.After-try-lists) where
 
   ready : number ≡ 0 → FillReady (service entry) (lists entry) (old entry)
   ready e =
-      let (roomy, inside, lists-accepted) = trial-zero _ _ (lists entry) .0 (number-is ∙ e) in
+      let (roomy, inside, lists-accepted, most) = trial-zero _ _ (lists entry) .0 (number-is ∙ e) in
       record {
-        tried = record { level-inside = ap outside (sym (level-read entry)) ∙ sym (c .before .value-outside .ensures) ∙ inside; lists-accepted = lists-accepted };
-        room = room-less (few (service entry) (lists entry) lists-accepted) (room-tested (old entry) (sym (c .before .before .too-short .ensures) ∙ roomy));
+        tried = record { level-inside = ap outside (sym (level-read entry)) ∙ sym (c .before .value-outside .ensures) ∙ inside; lists-accepted = lists-accepted; few = most };
+        room = room-less (few (service entry) (lists entry) lists-accepted most) (room-tested (old entry) (sym (c .before .before .too-short .ensures) ∙ roomy));
       }
 
 returns : tie.Need-returns

@@ -64,7 +64,7 @@ slice-aggregate-segment-from-4 c = sym (c .before .before .before .before .befor
 segment-from-requires : tie.Need-segment-from-requires Inv-loop μ-loop
 segment-from-requires c κs =
     let s = c .before .before .before .before .before .before .before .before .before .before .before .before in
-    let few = s .pre .tried .lists-accepted .few in
+    let few = s .pre .tried .few in
     let kept = c .before .before .before .before .before .loop .inv in
     record {
       tried = ready s .tried;

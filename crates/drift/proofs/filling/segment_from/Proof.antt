@@ -28,7 +28,7 @@ run-from-requires c κs =
     )
 
 mul-first-time : tie.Need-mul-first-time
-mul-first-time c = record { fits = omega (arith, c .before .before .before .before .before .before .before .before .before .before .before .before .before .before .pre .tried .lists-accepted .few, c .before .before .before .before .before .before .before .before .before .before .before .before .before .before .pre .inside) }
+mul-first-time c = record { fits = omega (arith, c .before .before .before .before .before .before .before .before .before .before .before .before .before .before .pre .tried .few, c .before .before .before .before .before .before .before .before .before .before .before .before .before .before .pre .inside) }
 
 shared-slice-read-first-time : tie.Need-shared-slice-read-first-time
 shared-slice-read-first-time c = c .before .before .before .before .before .before .before .before .before .before .before .before .before .before .before .pre .inside
@@ -37,7 +37,7 @@ sub-last-time : tie.Need-sub-last-time
 sub-last-time c = omega (arith, c .before .before .before .before .before .before .before .run-from .ensures .begins)
 
 mul-last-time : tie.Need-mul-last-time
-mul-last-time c = record { fits = omega (arith, c .before .before .before .before .before .before .before .run-from .ensures .within, c .before .before .before .before .before .before .before .before .before .before .before .before .before .before .before .pre .tried .lists-accepted .few) }
+mul-last-time c = record { fits = omega (arith, c .before .before .before .before .before .before .before .run-from .ensures .within, c .before .before .before .before .before .before .before .before .before .before .before .before .before .before .before .pre .tried .few) }
 
 shared-slice-read-last-time : tie.Need-shared-slice-read-last-time
 shared-slice-read-last-time c = omega (arith, c .before .before .before .before .before .before .before .before .run-from .ensures .begins, c .before .before .before .before .before .before .before .before .run-from .ensures .within)
@@ -46,7 +46,7 @@ sub-count : tie.Need-sub-count
 sub-count c = omega (arith, c .before .before .before .before .before .before .before .before .run-from .ensures .begins)
 
 cast-count : tie.Need-cast-count
-cast-count c = omega (arith, c .before .before .before .before .before .before .before .before .run-from .ensures .within, c .before .before .before .before .before .before .before .before .before .before .before .before .before .before .before .before .pre .tried .lists-accepted .few)
+cast-count c = omega (arith, c .before .before .before .before .before .before .before .before .run-from .ensures .within, c .before .before .before .before .before .before .before .before .before .before .before .before .before .before .before .before .pre .tried .few)
 
 same-length : tie.Need-same-length
 same-length c = c .before .before .before .before .before .before .before .before .before .run-from .kept .1 .1 .1 .0

@@ -11,7 +11,7 @@ use Rattle.drift.specs.Columns.{Columns, columns}
 use Rattle.drift.specs.SegmentPromise.{SegmentPromise}
 use Rattle.text.specs.Put.{Put}
 use Rattle.text.specs.PutLaws.{put-length, put-then}
-use Rattle.report_text.specs.SegmentText.{zeroColumns, zero-lengths, rows-given, few-given, text-accepted, text-refused}
+use Rattle.report_text.specs.SegmentText.{zeroColumns, zero-lengths, few-given, text-accepted, text-refused}
 use Rattle.report_text.proofs.trace_text.put_trace.Statement.{statement}
 use Rattle.report_text.proofs.trace_text.put_trace.Tie as tie
 
@@ -128,7 +128,7 @@ put-segments-requires c κs =
     let answer = c .before .before .before .before .before .before .before .before .before .before .before .before .before .before .before .before .before in
     let segment = answer .before .before .before .before .before .before .before .before .before .before .before .before .before in
     let s = segment .before .before .before .before .before .before .before .before .before .before .before .before .before .before in
-    let rows = rows-given (accepts answer) in
+    let rows = rows-room (accepts answer) in
     let few = few-given (accepts answer) in
     record { few = few; rows-in = rows; room = omega (arith, few, s .pre, heading .put-heading .ensures .1, put-length (heading-put heading)) }
 

@@ -1,10 +1,10 @@
--- `drift::rows::time_number` meets its contract, case by case. Assumes nothing.
+-- `values::rows::time_number` meets its contract, case by case. Assumes nothing.
 use mathlib.Core.Path.{sym, ap}
 use borrow.Author.Needs.{needs}
 use Rattle.definitions.specs.Results.{timeNumber}
 use Rattle.values.specs.Meanings.{timeOf}
-use Rattle.drift.proofs.rows.time_number.Statement.{statement}
-use Rattle.drift.proofs.rows.time_number.Tie as tie
+use Rattle.values.proofs.rows.time_number.Statement.{statement}
+use Rattle.values.proofs.rows.time_number.Tie as tie
 
 enum-told : tie.Need-enum-told
 enum-told c = search needs

@@ -1,0 +1,32 @@
+// The numbers that the scope fixes, each once for all code; specs/Spans.antt has them for contracts.
+
+// Lows, highs and the service level.
+pub const LEAST_VALUE: i32 = -268435456;
+
+pub const MOST_VALUE: i32 = 268435456;
+
+// A detector's address.
+pub const LEAST_ADDRESS: u16 = 1;
+
+pub const MOST_ADDRESS: u16 = 255;
+
+// The last time, with a sign, as what a quotient is compared with.
+pub const MOST_TIME: i64 = 4294967295;
+
+// Stands for a time that there is not.
+pub const NO_TIME: u64 = 4294967296;
+
+// How many ranges a trace has at most.
+pub const MOST_RANGES: usize = 4096;
+
+// The least length of each list that Read fills.
+pub const READ_ROOM: usize = MOST_RANGES;
+
+// The least length of the slice that Write fills: the largest file.
+pub const WRITE_ROOM: usize = 61451;
+
+// The least length of each slice that Segment fills: two ranges always have a line, so there are no more segments.
+pub const SEGMENT_ROOM: usize = 2048;
+
+// The least length of each slice that Corners fills: k ranges have at most 2k corners.
+pub const CORNER_ROOM: usize = 8192;
