@@ -36,12 +36,31 @@ extern "C" {
 /* The least number of entries in each slice that a function fills. */
 #define HUMORAKI_READ_ROOM 4096     /* times, lows, highs */
 #define HUMORAKI_WRITE_ROOM 61451   /* the bytes of a trace file */
-#define HUMORAKI_SEGMENT_ROOM 2048  /* each of the eleven slices of humoraki_segment */
+#define HUMORAKI_SEGMENT_ROOM 2048  /* each column of a segment's row */
 #define HUMORAKI_CORNER_ROOM 8192   /* ps, qs, ds */
 #define HUMORAKI_REPORT_ROOM 524544 /* the text of a report: 256 bytes for each of 2,049 lines */
 
 /* Stands for a time that there is not, in somes and alls. */
 #define HUMORAKI_NONE UINT64_C(4294967296)
+
+/*
+ * The columns of a segment's row, as parameters in their order: eleven slices, each filled with one entry for each
+ * segment. A line has the value (p * t + q) / d at t. A segment of one range is open: it has 0 in every column after
+ * counts.
+ */
+#define HUMORAKI_SEGMENT_COLUMNS \
+    uint32_t *first_times, size_t first_times_len, /* the time of the segment's first range */ \
+    uint32_t *last_times, size_t last_times_len,   /* the time of its last range */ \
+    uint32_t *counts, size_t counts_len,           /* the number of its ranges */ \
+    int64_t *slow_ps, size_t slow_ps_len,          /* the p of its slow line */ \
+    int64_t *slow_qs, size_t slow_qs_len,          /* the q */ \
+    int64_t *slow_ds, size_t slow_ds_len,          /* the d */ \
+    int64_t *fast_ps, size_t fast_ps_len,          /* the p of its fast line */ \
+    int64_t *fast_qs, size_t fast_qs_len,          /* the q */ \
+    int64_t *fast_ds, size_t fast_ds_len,          /* the d */ \
+    uint64_t *somes, size_t somes_len,             /* the first time from its last on at which some fitting line is */ \
+                                                   /* at or above the level, or HUMORAKI_NONE */ \
+    uint64_t *alls, size_t alls_len                /* the first at which every fitting line is, or HUMORAKI_NONE */
 
 /*
  * Reads a trace file.
@@ -83,18 +102,10 @@ uint8_t humoraki_write(uint16_t address, int32_t level,
 /*
  * The segments of a trace, with their slow and fast lines and their two times.
  *
- * level                         the service level, -268,435,456 to 268,435,456
- * times, lows, highs            the ranges, in lists of one length
- * first_times, last_times       filled with the time of each segment's first and last range
- * counts                        filled with the number of each segment's ranges
- * slow_ps, slow_qs, slow_ds     filled with the slow lines: the value at t is (p * t + q) / d
- * fast_ps, fast_qs, fast_ds     filled with the fast lines
- * somes                         filled with the first time from the segment's last on at which some fitting line is at
- *                               or above the level, or HUMORAKI_NONE
- * alls                          filled with the first such time at which every fitting line is, or HUMORAKI_NONE
- * count                         set to the number of segments
- *
- * A segment of one range is open: it has 0 in the last eight of its eleven entries.
+ * level                     the service level, -268,435,456 to 268,435,456
+ * times, lows, highs        the ranges, in lists of one length
+ * HUMORAKI_SEGMENT_COLUMNS  the columns, filled
+ * count                     set to the number of segments
  *
  * Refusals: 8, 10, 7, level 4, then range by range 4, 5, 6.
  */
@@ -102,17 +113,7 @@ uint8_t humoraki_segment(int32_t level,
                          const uint32_t *times, size_t times_len,
                          const int32_t *lows, size_t lows_len,
                          const int32_t *highs, size_t highs_len,
-                         uint32_t *first_times, size_t first_times_len,
-                         uint32_t *last_times, size_t last_times_len,
-                         uint32_t *counts, size_t counts_len,
-                         int64_t *slow_ps, size_t slow_ps_len,
-                         int64_t *slow_qs, size_t slow_qs_len,
-                         int64_t *slow_ds, size_t slow_ds_len,
-                         int64_t *fast_ps, size_t fast_ps_len,
-                         int64_t *fast_qs, size_t fast_qs_len,
-                         int64_t *fast_ds, size_t fast_ds_len,
-                         uint64_t *somes, size_t somes_len,
-                         uint64_t *alls, size_t alls_len,
+                         HUMORAKI_SEGMENT_COLUMNS,
                          size_t *count);
 
 /*
