@@ -1,6 +1,6 @@
 //! Prints the two times of a trace file's last segment:
 //!
-//!     rustc -O examples/times.rs -L target/staticlib -o target/times
+//!     rustc --edition 2024 -O examples/times.rs -L target/staticlib -o target/times
 //!     target/times samples/example.trace
 
 use std::fs::File;
@@ -8,7 +8,7 @@ use std::io::{self, Read, Write};
 use std::path::Path;
 use std::process::ExitCode;
 
-#[path = "../include/humoraki.rs"]
+#[path = "../include/humoraki/mod.rs"]
 mod humoraki;
 
 use humoraki::{Outlook, Segment};

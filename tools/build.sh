@@ -6,6 +6,7 @@
 root=$(cd "$(dirname "${BASH_SOURCE[0]}")/.." && pwd)
 target=$root/target
 library=$target/staticlib/libhumoraki.a
+programs=$target/rust/release
 
 say() { echo "$0: $*" >&2; }
 
@@ -43,13 +44,15 @@ need_report() { prove "$target/bin/report" check report; }
 
 need_library() { prove "$library" staticlib humoraki; }
 
-# Compiles tools/src/NAME.rs to target/tools/NAME.
-need_tool() { # NAME [LIBRARY]
-  local name=$1 tool=$target/tools/$1
+# Runs cargo on the workspace, with nothing fetched and everything as Cargo.lock has it.
+rust() { # COMMAND WORD...
+  local command=$1
   shift
-  stale "$tool" "$root/tools/src" "$root/include" "$@" || return 0
-  need rustc "the Rust compiler"
-  mkdir -p "$target/tools"
-  rustc --edition 2021 -O "$root/tools/src/$name.rs" ${1:+-L "$(dirname "$1")"} -o "$tool" >&2 ||
-    fail "tools/src/$name.rs does not compile"
+  cargo "$command" --quiet --offline --locked --manifest-path "$root/Cargo.toml" --target-dir "$target/rust" "$@"
+}
+
+# Has cargo build a program of the workspace: $programs/NAME. Cargo itself sees whether there is something to do.
+need_program() { # NAME [WORD...]
+  need cargo "Rust's build tool"
+  rust build --release --bin "$@" >&2 || fail "$1 does not compile"
 }

@@ -1,8 +1,8 @@
 //! The two calls that are measured, of either program.
 
 use crate::buffers::Buffers;
-use crate::traces::Trace;
-use crate::{proved, unproved};
+use crate::unproved;
+use humoraki::{Trace, lent};
 
 #[derive(Clone, Copy)]
 pub enum Call {
@@ -12,19 +12,22 @@ pub enum Call {
 }
 
 impl Call {
+    /// The call of the static library: the count that it sets, or the number of a refusal.
     pub fn proved(self, trace: &Trace, out: &mut Buffers) -> Result<usize, u8> {
-        let lists = trace.lists();
+        let ranges = trace.ranges();
+        let mut count = 0;
         match self {
-            Call::Segment => proved::segment(trace.level, lists, out.segment_slices()),
-            Call::Corners => proved::corners(lists.times.len(), lists, out.corner_slices()),
+            Call::Segment => lent::segment(trace.level, ranges, out.segments.columns(), &mut count)?,
+            Call::Corners => lent::corners(ranges.times.len(), ranges, out.corners(), &mut count)?,
         }
+        Ok(count)
     }
 
     pub fn unproved(self, trace: &Trace, out: &mut Buffers) -> Result<usize, u8> {
-        let lists = trace.lists();
+        let ranges = trace.ranges();
         match self {
-            Call::Segment => unproved::segment(trace.level, lists, out.segment_slices()),
-            Call::Corners => unproved::corners(lists.times.len(), lists, out.corner_slices()),
+            Call::Segment => unproved::segment(trace.level, ranges, out.segments.columns()),
+            Call::Corners => unproved::corners(ranges.times.len(), ranges, out.corners()),
         }
     }
 }

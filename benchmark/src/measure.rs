@@ -2,7 +2,7 @@
 
 use crate::buffers::Buffers;
 use crate::calls::Call;
-use crate::traces::Trace;
+use humoraki::Trace;
 use std::hint::black_box;
 use std::time::{Duration, Instant};
 
@@ -31,7 +31,7 @@ impl Least {
 
     fn for_each_range(&self, traces: &[Trace]) -> f64 {
         let total: Duration = self.0.iter().sum();
-        let ranges: usize = traces.iter().map(|t| t.lists().times.len()).sum();
+        let ranges: usize = traces.iter().map(|t| t.times.len()).sum();
         total.as_nanos() as f64 / ranges as f64
     }
 }
@@ -46,12 +46,7 @@ pub struct Measure {
 
 impl Measure {
     pub fn new(call: Call, traces: Vec<Trace>) -> Self {
-        Measure {
-            call,
-            proved: Least::new(&traces),
-            unproved: Least::new(&traces),
-            traces,
-        }
+        Measure { call, proved: Least::new(&traces), unproved: Least::new(&traces), traces }
     }
 
     /// Both programs in turn, each with slices of its own. The first pass warms up.
@@ -59,8 +54,7 @@ impl Measure {
         let begin = Instant::now();
         while begin.elapsed() < ROUND {
             self.proved.pass(Call::proved, self.call, &self.traces, one);
-            self.unproved
-                .pass(Call::unproved, self.call, &self.traces, other);
+            self.unproved.pass(Call::unproved, self.call, &self.traces, other);
         }
     }
 

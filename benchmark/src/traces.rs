@@ -1,7 +1,7 @@
 //! The traces that are measured, in three shapes.
 
 use crate::random::Random;
-use crate::slices::Lists;
+use humoraki::Trace;
 
 /// Large, so that the times have as many digits in a short trace as in a long one.
 const FIRST_TIME: i64 = 10_000_000;
@@ -16,36 +16,14 @@ pub enum Shape {
     LargeChains,
 }
 
-pub struct Trace {
-    pub level: i32,
-    times: Vec<u32>,
-    lows: Vec<i32>,
-    highs: Vec<i32>,
-}
-
-impl Trace {
-    fn new(level: i64, ranges: impl Iterator<Item = (i64, i64, i64)>) -> Self {
-        let mut trace = Trace {
-            level: level as i32,
-            times: Vec::new(),
-            lows: Vec::new(),
-            highs: Vec::new(),
-        };
-        for (time, low, high) in ranges {
-            trace.times.push(time as u32);
-            trace.lows.push(low as i32);
-            trace.highs.push(high as i32);
-        }
-        trace
+fn trace(level: i32, ranges: impl Iterator<Item = (i64, i64, i64)>) -> Trace {
+    let mut trace = Trace { address: 1, level, times: Vec::new(), lows: Vec::new(), highs: Vec::new() };
+    for (time, low, high) in ranges {
+        trace.times.push(time as u32);
+        trace.lows.push(low as i32);
+        trace.highs.push(high as i32);
     }
-
-    pub fn lists(&self) -> Lists<'_> {
-        Lists {
-            times: &self.times,
-            lows: &self.lows,
-            highs: &self.highs,
-        }
-    }
+    trace
 }
 
 fn long_segment(n: usize, random: &mut Random) -> Trace {
@@ -58,7 +36,7 @@ fn long_segment(n: usize, random: &mut Random) -> Trace {
         let high = value + 1 + random.between(0, 2000);
         (time, low, high)
     });
-    Trace::new(200_000_000, ranges)
+    trace(200_000_000, ranges)
 }
 
 fn short_segments(n: usize, random: &mut Random) -> Trace {
@@ -70,7 +48,7 @@ fn short_segments(n: usize, random: &mut Random) -> Trace {
         let high = value + random.between(0, 4000);
         (time, low, high)
     });
-    Trace::new(40_000, ranges)
+    trace(40_000, ranges)
 }
 
 fn large_chains(n: usize, random: &mut Random) -> Trace {
@@ -84,7 +62,7 @@ fn large_chains(n: usize, random: &mut Random) -> Trace {
         let half_width = bend * (middle * middle + away * away);
         (FIRST_TIME + k * step, -half_width, half_width)
     });
-    Trace::new(200_000_000, ranges)
+    trace(200_000_000, ranges)
 }
 
 /// A number of traces of one shape with n ranges each.

@@ -4,6 +4,7 @@
 //! what the first must hold, so that after each call every entry is compared: filled, left as it was, or outside.
 
 use crate::random::Random;
+use crate::room::Room;
 use std::fmt::Display;
 
 /// How many entries there are at least on each side of a lent slice.
@@ -43,32 +44,11 @@ impl<T: Entry> Lent<T> {
         Lent { name, held: Vec::new(), known: Vec::new(), from: 0, to: 0, filled: 0 }
     }
 
-    /// Lends that many entries, somewhere in the list, with whatever they hold, but for fresh junk in the first
-    /// `fresh` of them and a few behind, so that an entry that was to be filled does not have its value by chance.
-    pub fn lend(&mut self, length: usize, fresh: usize, random: &mut Random) {
-        self.from = MARGIN + random.below(MARGIN);
-        self.to = self.from + length;
-        self.filled = 0;
-        while self.held.len() < self.to + MARGIN {
-            self.held.push(T::from_bits(random.next()));
-            self.known.push(self.held[self.held.len() - 1]);
-        }
-        let junk = self.held.len().min(self.from + fresh + MARGIN);
-        for place in self.from..junk {
-            self.held[place] = T::from_bits(random.next());
-            self.known[place] = self.held[place];
-        }
-    }
-
     /// Lends entries that the library is to read.
     pub fn lend_filled(&mut self, entries: &[T], random: &mut Random) {
         self.lend(entries.len(), 0, random);
         self.held[self.from..self.to].copy_from_slice(entries);
         self.known[self.from..self.to].copy_from_slice(entries);
-    }
-
-    pub fn len(&self) -> usize {
-        self.to - self.from
     }
 
     pub fn entries(&self) -> &[T] {
@@ -93,11 +73,36 @@ impl<T: Entry> Lent<T> {
 
 /// What every lent slice can be asked, whatever its entries.
 pub trait Watched {
+    /// Lends that many entries, somewhere in the list, with whatever they hold, but for fresh junk in the first
+    /// `fresh` of them and a few behind, so that an entry that was to be filled does not have its value by chance.
+    fn lend(&mut self, length: usize, fresh: usize, random: &mut Random);
+
+    fn len(&self) -> usize;
+
     /// Nothing if all is as it must be; else where it is not, in words.
     fn difference(&self) -> Option<String>;
 }
 
 impl<T: Entry> Watched for Lent<T> {
+    fn lend(&mut self, length: usize, fresh: usize, random: &mut Random) {
+        self.from = MARGIN + random.below(MARGIN);
+        self.to = self.from + length;
+        self.filled = 0;
+        while self.held.len() < self.to + MARGIN {
+            self.held.push(T::from_bits(random.next()));
+            self.known.push(self.held[self.held.len() - 1]);
+        }
+        let junk = self.held.len().min(self.from + fresh + MARGIN);
+        for place in self.from..junk {
+            self.held[place] = T::from_bits(random.next());
+            self.known[place] = self.held[place];
+        }
+    }
+
+    fn len(&self) -> usize {
+        self.to - self.from
+    }
+
     fn difference(&self) -> Option<String> {
         if self.held == self.known {
             return None;
@@ -113,6 +118,22 @@ impl<T: Entry> Watched for Lent<T> {
              expected {expected}\n    given    {given}\n"
         ))
     }
+}
+
+/// Lends the slices that a call is to fill, each as long as the room says; whether one is too short.
+pub fn lend_room(
+    slices: &mut [&mut dyn Watched],
+    room: &Room,
+    least: usize,
+    fresh: usize,
+    random: &mut Random,
+) -> bool {
+    let mut short = false;
+    for (place, slice) in slices.iter_mut().enumerate() {
+        slice.lend(room.length(place, least, random), fresh, random);
+        short |= slice.len() < least;
+    }
+    short
 }
 
 fn listed<T: Display>(entries: &[T]) -> String {

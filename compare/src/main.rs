@@ -11,7 +11,6 @@ mod desk;
 mod difference;
 mod file;
 mod lent;
-mod library;
 mod line;
 mod meaning;
 mod outlook;

@@ -9,8 +9,6 @@ use std::ffi::OsStr;
 use std::io::{self, Read, Write};
 use std::process::ExitCode;
 
-#[path = "../../include/humoraki.rs"]
-mod humoraki;
 mod lines;
 
 use humoraki::Trace;
@@ -57,20 +55,14 @@ fn make() -> Result<Vec<u8>, String> {
 /// The lines of the trace file on standard input.
 fn show() -> Result<Vec<u8>, String> {
     let mut file = Vec::new();
-    io::stdin()
-        .take(MOST_BYTES)
-        .read_to_end(&mut file)
-        .map_err(|error| format!("standard input: {error}"))?;
+    io::stdin().take(MOST_BYTES).read_to_end(&mut file).map_err(|error| format!("standard input: {error}"))?;
     let trace = humoraki::read(&file).map_err(refused)?;
     Ok(text_of(&trace).into_bytes())
 }
 
 fn send(bytes: &[u8]) -> Result<(), String> {
     let mut output = io::stdout();
-    output
-        .write_all(bytes)
-        .and_then(|()| output.flush())
-        .map_err(|error| format!("standard output: {error}"))
+    output.write_all(bytes).and_then(|()| output.flush()).map_err(|error| format!("standard output: {error}"))
 }
 
 fn refused(number: u8) -> String {

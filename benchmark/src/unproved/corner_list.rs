@@ -4,10 +4,10 @@ use super::chains::{Chains, Part};
 use super::ends::Ends;
 use super::line::{Line, Point};
 use super::polygon::Polygon;
-use crate::slices::CornerSlices;
+use humoraki::lent::Lines;
 
 /// A line in lowest terms, stored at a place of the three slices.
-fn put(out: &mut CornerSlices, at: usize, line: Line) {
+fn put(out: &mut Lines, at: usize, line: Line) {
     let line = line.reduced();
     out.ps[at] = line.p;
     out.qs[at] = line.q;
@@ -15,13 +15,7 @@ fn put(out: &mut CornerSlices, at: usize, line: Line) {
 }
 
 /// The lines through neighbours of a chain, from a place on, and the place after them.
-fn list_chain(
-    end_of: impl Fn(u32) -> Point,
-    chain: &[u32],
-    part: Part,
-    out: &mut CornerSlices,
-    mut at: usize,
-) -> usize {
+fn list_chain(end_of: impl Fn(u32) -> Point, chain: &[u32], part: Part, out: &mut Lines, mut at: usize) -> usize {
     for pair in chain[part.start..part.end].windows(2) {
         put(out, at, Line::through(end_of(pair[0]), end_of(pair[1])));
         at += 1;
@@ -30,12 +24,7 @@ fn list_chain(
 }
 
 /// The corners in corner order, and their number.
-pub fn list_corners(
-    ends: Ends<false>,
-    chains: &Chains,
-    polygon: Polygon,
-    out: &mut CornerSlices,
-) -> usize {
+pub fn list_corners(ends: Ends<false>, chains: &Chains, polygon: Polygon, out: &mut Lines) -> usize {
     put(out, 0, polygon.slow);
     if !polygon.fast.is_steeper_than(polygon.slow) {
         return 1;

@@ -1,7 +1,7 @@
 //! The ends of ranges as points, as they are or in the mirror.
 
 use super::line::Point;
-use crate::slices::Lists;
+use humoraki::lent::Ranges;
 
 /// The ranges as one side sees them: their tops are the highs, or in the mirror the lows, negated. The side is known at
 /// compile time, so that each has code of its own.
@@ -13,30 +13,19 @@ pub struct Ends<'a, const MIRRORED: bool> {
 }
 
 impl<'a> Ends<'a, false> {
-    pub fn of(lists: Lists<'a>) -> Self {
-        Ends {
-            times: lists.times,
-            tops: lists.highs,
-            bottoms: lists.lows,
-        }
+    pub fn of(ranges: Ranges<'a>) -> Self {
+        Ends { times: ranges.times, tops: ranges.highs, bottoms: ranges.lows }
     }
 
     pub fn mirror(self) -> Ends<'a, true> {
-        Ends {
-            times: self.times,
-            tops: self.bottoms,
-            bottoms: self.tops,
-        }
+        Ends { times: self.times, tops: self.bottoms, bottoms: self.tops }
     }
 }
 
 impl<const MIRRORED: bool> Ends<'_, MIRRORED> {
     fn point(self, values: &[i32], k: u32) -> Point {
         let value = i64::from(values[k as usize]);
-        Point {
-            time: i64::from(self.times[k as usize]),
-            value: if MIRRORED { -value } else { value },
-        }
+        Point { time: i64::from(self.times[k as usize]), value: if MIRRORED { -value } else { value } }
     }
 
     pub fn top(self, k: u32) -> Point {

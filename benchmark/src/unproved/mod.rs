@@ -10,28 +10,25 @@ mod rows;
 mod run;
 mod trial;
 
-use crate::slices::{CornerSlices, Lists, SegmentSlices};
 use chains::Chains;
 use ends::Ends;
+use humoraki::lent::{Columns, Lines, Ranges};
 use outlook::Outlook;
 use rows::Segment;
 
 /// The number of segments, or of a refusal.
 // A call of its own, as that of the library is, so that nothing of it moves into the loop that measures.
 #[inline(never)]
-pub fn segment(level: i32, lists: Lists, mut out: SegmentSlices) -> Result<usize, u8> {
-    trial::try_segment(level, lists, &out)?;
+pub fn segment(level: i32, ranges: Ranges, mut out: Columns) -> Result<usize, u8> {
+    trial::try_segment(level, ranges, &out)?;
     let mut up = [0; trial::MOST_RANGES];
     let mut down = [0; trial::MOST_RANGES];
-    let mut chains = Chains {
-        up: &mut up,
-        down: &mut down,
-    };
-    let n = lists.times.len() as u32;
+    let mut chains = Chains { up: &mut up, down: &mut down };
+    let n = ranges.times.len() as u32;
     let mut start = 0;
     let mut count = 0;
     while start < n {
-        let segment = segment_from(level, lists, &mut chains, start);
+        let segment = segment_from(level, ranges, &mut chains, start);
         rows::store(&mut out, count, segment);
         start += segment.count;
         count += 1;
@@ -40,34 +37,24 @@ pub fn segment(level: i32, lists: Lists, mut out: SegmentSlices) -> Result<usize
 }
 
 /// The segment that begins at range `start`: the run from there on, and its outlook.
-fn segment_from(level: i32, lists: Lists, chains: &mut Chains, start: u32) -> Segment {
-    let reach = run::run_from(Ends::of(lists), chains, start, lists.times.len() as u32);
-    let last_time = lists.times[reach.end as usize - 1];
+fn segment_from(level: i32, ranges: Ranges, chains: &mut Chains, start: u32) -> Segment {
+    let reach = run::run_from(Ends::of(ranges), chains, start, ranges.times.len() as u32);
+    let last_time = ranges.times[reach.end as usize - 1];
     let outlook = match reach.polygon {
         None => Outlook::Open,
         Some(polygon) => Outlook::of_lines(polygon.slow, polygon.fast, level, last_time),
     };
-    Segment {
-        first_time: lists.times[start as usize],
-        last_time,
-        count: reach.end - start,
-        outlook,
-    }
+    Segment { first_time: ranges.times[start as usize], last_time, count: reach.end - start, outlook }
 }
 
 /// The number of corners after the first k ranges, 0 where the fit is open, or the number of a refusal.
 #[inline(never)]
-pub fn corners(k: usize, lists: Lists, mut out: CornerSlices) -> Result<usize, u8> {
-    trial::try_corners(k, lists, &out)?;
+pub fn corners(k: usize, ranges: Ranges, mut out: Lines) -> Result<usize, u8> {
+    trial::try_corners(k, ranges, &out)?;
     let mut up = [0; trial::MOST_RANGES];
     let mut down = [0; trial::MOST_RANGES];
-    let mut chains = Chains {
-        up: &mut up,
-        down: &mut down,
-    };
-    let ends = Ends::of(lists);
+    let mut chains = Chains { up: &mut up, down: &mut down };
+    let ends = Ends::of(ranges);
     let polygon = run::last_polygon(ends, &mut chains, k as u32);
-    Ok(polygon.map_or(0, |found| {
-        corner_list::list_corners(ends, &chains, found, &mut out)
-    }))
+    Ok(polygon.map_or(0, |found| corner_list::list_corners(ends, &chains, found, &mut out)))
 }

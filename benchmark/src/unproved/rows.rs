@@ -1,11 +1,9 @@
-//! A segment, and its eleven numbers into the lent slices.
+//! A segment, and its row of numbers into the lent columns.
 
 use super::line::Line;
 use super::outlook::Outlook;
-use crate::slices::SegmentSlices;
-
-/// Stands for a time that is none.
-const NEVER: u64 = 4_294_967_296;
+use humoraki::NONE;
+use humoraki::lent::Columns;
 
 #[derive(Clone, Copy)]
 pub struct Segment {
@@ -16,20 +14,15 @@ pub struct Segment {
 }
 
 fn time_number(time: Option<u32>) -> u64 {
-    time.map_or(NEVER, u64::from)
+    time.map_or(NONE, u64::from)
 }
 
-/// Stores a segment at a place of each slice. An open one has 0 in the last eight.
-pub fn store(out: &mut SegmentSlices, at: usize, segment: Segment) {
+/// Stores a segment at a place of each column. An open one has 0 for its lines and times.
+pub fn store(out: &mut Columns, at: usize, segment: Segment) {
     let none = Line { p: 0, q: 0, d: 0 };
     let (slow, fast, some, all) = match segment.outlook {
         Outlook::Open => (none, none, 0, 0),
-        Outlook::Lines {
-            slow,
-            fast,
-            some,
-            all,
-        } => (slow, fast, time_number(some), time_number(all)),
+        Outlook::Lines { slow, fast, some, all } => (slow, fast, time_number(some), time_number(all)),
     };
     out.first_times[at] = segment.first_time;
     out.last_times[at] = segment.last_time;

@@ -1,7 +1,7 @@
 //! Which number of the refusals turns the lists and slices of a call down.
 
-use crate::buffers::{CORNER_ROOM, SEGMENT_ROOM};
-use crate::slices::{CornerSlices, Lists, SegmentSlices};
+use humoraki::lent::{Columns, Lines, Ranges};
+use humoraki::{CORNER_ROOM, SEGMENT_ROOM};
 
 pub const MOST_RANGES: usize = 4096;
 
@@ -12,10 +12,10 @@ fn value_outside(value: i32) -> bool {
 }
 
 /// The ranges one after the other: the number of the first that is turned down.
-fn try_ranges(lists: Lists) -> Result<(), u8> {
+fn try_ranges(ranges: Ranges) -> Result<(), u8> {
     let mut least = 0;
-    let values = lists.lows.iter().zip(lists.highs);
-    for (&time, (&low, &high)) in lists.times.iter().zip(values) {
+    let values = ranges.lows.iter().zip(ranges.highs);
+    for (&time, (&low, &high)) in ranges.times.iter().zip(values) {
         if value_outside(low) || value_outside(high) {
             return Err(4);
         }
@@ -30,44 +30,40 @@ fn try_ranges(lists: Lists) -> Result<(), u8> {
     Ok(())
 }
 
-fn try_lists(short: bool, outside: bool, lists: Lists) -> Result<(), u8> {
-    let n = lists.times.len();
+fn try_lists(short: bool, outside: bool, ranges: Ranges) -> Result<(), u8> {
+    let n = ranges.times.len();
     if short {
         Err(8)
-    } else if n != lists.lows.len() || n != lists.highs.len() {
+    } else if n != ranges.lows.len() || n != ranges.highs.len() {
         Err(10)
     } else if MOST_RANGES < n {
         Err(7)
     } else if outside {
         Err(4)
     } else {
-        try_ranges(lists)
+        try_ranges(ranges)
     }
 }
 
-pub fn try_segment(level: i32, lists: Lists, out: &SegmentSlices) -> Result<(), u8> {
-    let lengths = [
-        out.first_times.len(),
-        out.last_times.len(),
-        out.counts.len(),
-        out.slow_ps.len(),
-        out.slow_qs.len(),
-        out.slow_ds.len(),
-        out.fast_ps.len(),
-        out.fast_qs.len(),
-        out.fast_ds.len(),
-        out.somes.len(),
-        out.alls.len(),
-    ];
-    let short = lengths.iter().any(|&n| n < SEGMENT_ROOM);
-    try_lists(short, value_outside(level), lists)
+macro_rules! try_columns {
+    ($($column:ident: $number:ty,)*) => {
+        fn is_short(columns: &Columns) -> bool {
+            [$(columns.$column.len()),*].iter().any(|&n| n < SEGMENT_ROOM)
+        }
+    };
 }
 
-pub fn try_corners(k: usize, lists: Lists, out: &CornerSlices) -> Result<(), u8> {
+humoraki::segment_columns!(try_columns);
+
+pub fn try_segment(level: i32, ranges: Ranges, out: &Columns) -> Result<(), u8> {
+    try_lists(is_short(out), value_outside(level), ranges)
+}
+
+pub fn try_corners(k: usize, ranges: Ranges, out: &Lines) -> Result<(), u8> {
     let lengths = [out.ps.len(), out.qs.len(), out.ds.len()];
     let short = lengths.iter().any(|&n| n < CORNER_ROOM);
-    try_lists(short, false, lists)?;
-    if k == 0 || lists.times.len() < k {
+    try_lists(short, false, ranges)?;
+    if k == 0 || ranges.times.len() < k {
         return Err(9);
     }
     Ok(())

@@ -1,22 +1,25 @@
 //! Corners, compared.
 
-use super::lists::{LentLines, LentLists};
-use super::{number, unless_short, Returned, Told};
+use super::lists::LentLists;
+use super::{Returned, Told, narrow, number, unless_short};
 use crate::difference::Outcome;
-use crate::lent::Lent;
-use crate::library::{self, CORNER_ROOM};
+use crate::lent::{Lent, Watched, lend_room};
 use crate::line::Line;
 use crate::random::Random;
 use crate::room::Room;
 use crate::tally::{Call, Tally};
 use crate::trace::Lists;
+use humoraki::CORNER_ROOM;
+use humoraki::lent::{self, Lines};
 
 /// How many slices Corners fills.
 pub const PLACES: usize = 3;
 
 pub struct CornersCall {
     lists: LentLists,
-    corners: LentLines,
+    ps: Lent<i64>,
+    qs: Lent<i64>,
+    ds: Lent<i64>,
     count: Lent<usize>,
 }
 
@@ -24,7 +27,9 @@ impl CornersCall {
     pub fn new() -> CornersCall {
         CornersCall {
             lists: LentLists::new(),
-            corners: LentLines::new(["ps", "qs", "ds"]),
+            ps: Lent::new("ps"),
+            qs: Lent::new("qs"),
+            ds: Lent::new("ds"),
             count: Lent::new("count"),
         }
     }
@@ -40,24 +45,34 @@ impl CornersCall {
     ) -> Outcome {
         let fresh = (2 * lists.times.len()).min(CORNER_ROOM);
         self.lists.lend(lists, random);
-        let short = self.corners.lend((room, 0), CORNER_ROOM, fresh, random);
+        let short = lend_room(&mut [&mut self.ps, &mut self.qs, &mut self.ds], room, CORNER_ROOM, fresh, random);
         self.count.lend(1, 1, random);
         let expected = unless_short(short, expected);
-        let ranges = self.lists.ranges();
-        let given = library::corners(k, ranges, self.corners.lines(), self.count.entry_mut());
+        let given = self.call(k);
         if let Ok(corners) = expected {
-            let lines: Vec<Option<Line>> = corners.iter().copied().map(Some).collect();
-            self.corners.expect(&lines);
-            self.count.expect(&[corners.len()]);
+            self.expect(corners);
         }
         let [times, lows, highs] = self.lists.watched();
-        let [ps, qs, ds] = self.corners.watched();
         let returned = Returned {
             call: Call::Corners,
             expected: number(&expected),
-            given,
-            lent: vec![times, lows, highs, ps, qs, ds, &self.count],
+            given: number(&given),
+            lent: vec![times, lows, highs, &self.ps, &self.qs, &self.ds, &self.count],
         };
         returned.judge(tally, || Told::on_lists(format!("Corners, k {k}, {room}"), lists, 1, 0))
+    }
+
+    fn call(&mut self, k: usize) -> Result<(), u8> {
+        let corners = Lines { ps: self.ps.entries_mut(), qs: self.qs.entries_mut(), ds: self.ds.entries_mut() };
+        lent::corners(k, self.lists.ranges(), corners, self.count.entry_mut())
+    }
+
+    fn expect(&mut self, corners: &[Line]) {
+        let numbers =
+            |part: fn(&Line) -> i128| -> Vec<i64> { corners.iter().map(|line| narrow(part(line))).collect() };
+        self.ps.expect(&numbers(|line| line.p));
+        self.qs.expect(&numbers(|line| line.q));
+        self.ds.expect(&numbers(|line| line.d));
+        self.count.expect(&[corners.len()]);
     }
 }

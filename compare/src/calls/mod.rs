@@ -1,5 +1,6 @@
 //! Each call of the library beside what is expected of it, with all that was lent to it compared whole.
 
+pub mod columns;
 pub mod corners;
 pub mod lists;
 pub mod read;
@@ -7,7 +8,7 @@ pub mod report;
 pub mod segment;
 pub mod write;
 
-use crate::difference::{answer, Difference, Outcome};
+use crate::difference::{Difference, Outcome, answer};
 use crate::file::{bytes, visible};
 use crate::lent::Watched;
 use crate::tally::{Call, Tally};
@@ -65,14 +66,15 @@ impl Returned<'_> {
 
 /// What is expected, unless a lent slice is too short.
 pub fn unless_short<T>(short: bool, expected: Result<T, u8>) -> Result<T, u8> {
-    if short {
-        Err(8)
-    } else {
-        expected
-    }
+    if short { Err(8) } else { expected }
 }
 
 /// The number that a call returns.
-pub fn number<T>(expected: &Result<T, u8>) -> u8 {
-    expected.as_ref().err().copied().unwrap_or(0)
+pub fn number<T>(answer: &Result<T, u8>) -> u8 {
+    answer.as_ref().err().copied().unwrap_or(0)
+}
+
+/// A line's number as the library has it.
+fn narrow(number: i128) -> i64 {
+    i64::try_from(number).expect("a number of a line through two ends")
 }

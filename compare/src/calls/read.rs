@@ -1,14 +1,14 @@
 //! Read, compared.
 
-use super::{number, unless_short, Returned, Told};
+use super::{Returned, Told, number, unless_short};
 use crate::difference::Outcome;
 use crate::file::visible;
-use crate::lent::Lent;
-use crate::library::{self, READ_ROOM};
+use crate::lent::{Lent, Watched, lend_room};
 use crate::random::Random;
 use crate::room::Room;
 use crate::tally::{Call, Tally};
 use crate::trace::{Lists, Trace};
+use humoraki::{READ_ROOM, lent};
 
 /// How many slices Read fills.
 pub const PLACES: usize = 3;
@@ -47,7 +47,7 @@ impl ReadCall {
     ) -> Outcome {
         let short = self.lend(file, room, random);
         let expected = unless_short(short, expected);
-        let given = library::read(
+        let given = lent::read(
             self.file.entries(),
             self.times.entries_mut(),
             self.lows.entries_mut(),
@@ -62,7 +62,7 @@ impl ReadCall {
         let returned = Returned {
             call: Call::Read,
             expected: number(&expected),
-            given,
+            given: number(&given),
             lent: vec![&self.file, &self.times, &self.lows, &self.highs, &self.address, &self.level, &self.ranges],
         };
         returned.judge(tally, || Told::on_file(format!("Read, {room}"), file))
@@ -72,13 +72,12 @@ impl ReadCall {
     fn lend(&mut self, file: &[u8], room: &Room, random: &mut Random) -> bool {
         let fresh = visible(file).ranges.len().min(READ_ROOM);
         self.file.lend_filled(file, random);
-        self.times.lend(room.length(0, READ_ROOM, random), fresh, random);
-        self.lows.lend(room.length(1, READ_ROOM, random), fresh, random);
-        self.highs.lend(room.length(2, READ_ROOM, random), fresh, random);
+        let lists: &mut [&mut dyn Watched] = &mut [&mut self.times, &mut self.lows, &mut self.highs];
+        let short = lend_room(lists, room, READ_ROOM, fresh, random);
         self.address.lend(1, 1, random);
         self.level.lend(1, 1, random);
         self.ranges.lend(1, 1, random);
-        [self.times.len(), self.lows.len(), self.highs.len()].iter().any(|&len| len < READ_ROOM)
+        short
     }
 
     fn expect(&mut self, trace: &Trace) {

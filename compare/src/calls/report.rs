@@ -1,12 +1,12 @@
 //! The report, compared.
 
-use super::{number, unless_short, Returned, Told};
+use super::{Returned, Told, number, unless_short};
 use crate::difference::Outcome;
-use crate::lent::Lent;
-use crate::library::{self, REPORT_ROOM};
+use crate::lent::{Lent, Watched, lend_room};
 use crate::random::Random;
 use crate::room::Room;
 use crate::tally::{Call, Tally};
+use humoraki::{REPORT_ROOM, lent};
 
 pub struct ReportCall {
     file: Lent<u8>,
@@ -29,10 +29,10 @@ impl ReportCall {
         tally: &mut Tally,
     ) -> Outcome {
         self.file.lend_filled(file, random);
-        self.text.lend(room.length(0, REPORT_ROOM, random), expected.len(), random);
+        let short = lend_room(&mut [&mut self.text], room, REPORT_ROOM, expected.len(), random);
         self.count.lend(1, 1, random);
-        let answer = unless_short(self.text.len() < REPORT_ROOM, Ok(expected));
-        let given = library::report(self.file.entries(), self.text.entries_mut(), self.count.entry_mut());
+        let answer = unless_short(short, Ok(expected));
+        let given = lent::report(self.file.entries(), self.text.entries_mut(), self.count.entry_mut());
         if answer.is_ok() {
             self.text.expect(expected.as_bytes());
             self.count.expect(&[expected.len()]);
@@ -40,7 +40,7 @@ impl ReportCall {
         let returned = Returned {
             call: Call::Report,
             expected: number(&answer),
-            given,
+            given: number(&given),
             lent: vec![&self.file, &self.text, &self.count],
         };
         tally.add("reports of a refusal", expected.starts_with("refused") as usize);

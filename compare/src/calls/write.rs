@@ -1,14 +1,14 @@
 //! Write, compared.
 
 use super::lists::LentLists;
-use super::{number, unless_short, Returned, Told};
+use super::{Returned, Told, number, unless_short};
 use crate::difference::Outcome;
-use crate::lent::Lent;
-use crate::library::{self, WRITE_ROOM};
+use crate::lent::{Lent, Watched, lend_room};
 use crate::random::Random;
 use crate::room::Room;
 use crate::tally::{Call, Tally};
 use crate::trace::Lists;
+use humoraki::{WRITE_ROOM, lent};
 
 /// How many slices Write fills.
 pub const PLACES: usize = 1;
@@ -35,11 +35,10 @@ impl WriteCall {
     ) -> Outcome {
         let fresh = expected.map_or(0, <[u8]>::len);
         self.lists.lend(lists, random);
-        self.file.lend(room.length(0, WRITE_ROOM, random), fresh, random);
+        let short = lend_room(&mut [&mut self.file], room, WRITE_ROOM, fresh, random);
         self.count.lend(1, 1, random);
-        let expected = unless_short(self.file.len() < WRITE_ROOM, expected);
-        let given =
-            library::write(address, level, self.lists.ranges(), self.file.entries_mut(), self.count.entry_mut());
+        let expected = unless_short(short, expected);
+        let given = lent::write(address, level, self.lists.ranges(), self.file.entries_mut(), self.count.entry_mut());
         if let Ok(bytes) = expected {
             self.file.expect(bytes);
             self.count.expect(&[bytes.len()]);
@@ -48,7 +47,7 @@ impl WriteCall {
         let returned = Returned {
             call: Call::Write,
             expected: number(&expected),
-            given,
+            given: number(&given),
             lent: vec![times, lows, highs, &self.file, &self.count],
         };
         let call = || format!("Write, address {address}, level {level}, {room}");

@@ -7,14 +7,15 @@ use crate::difference::Outcome;
 use crate::file;
 use crate::room::Room;
 use crate::segments::BY_CLIPPING;
-use crate::trace::{Lists, Trace, MOST_RANGES};
+use crate::trace::{Lists, MOST_RANGES, Trace};
 use crate::traces::long::full;
+use humoraki::WRITE_ROOM;
 
 /// What the report program reads of standard input at most.
 const INPUT: usize = 65_536;
 
 /// The largest file.
-const LARGEST: usize = 61_451;
+const LARGEST: usize = WRITE_ROOM;
 
 /// How many other ends are tried for the largest file.
 const CUTS: usize = 300;

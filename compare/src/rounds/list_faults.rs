@@ -1,17 +1,17 @@
 //! Every set of faults in what Write, Segment and Corners are handed, so that the order of the refusals is tried.
 
 use crate::answers::{self, borrowed};
-use crate::calls::{corners, segment, write};
+use crate::calls::{columns, corners, write};
 use crate::damage::outside;
 use crate::desk::Desk;
 use crate::difference::Outcome;
-use crate::library::{CORNER_ROOM, SEGMENT_ROOM, WRITE_ROOM};
 use crate::random::Random;
 use crate::room::Room;
 use crate::segments::BY_TRYING;
-use crate::trace::{Lists, Range, LARGEST_ADDRESS, MOST_RANGES};
+use crate::trace::{LARGEST_ADDRESS, Lists, MOST_RANGES, Range};
 use crate::traces::long::full;
 use crate::traces::small::small_ranges;
+use humoraki::{CORNER_ROOM, SEGMENT_ROOM, WRITE_ROOM};
 
 #[derive(Clone, Copy, PartialEq)]
 enum Fault {
@@ -134,7 +134,7 @@ fn three_calls(desk: &mut Desk, handed: &Handed) -> Outcome {
     let for_write = room(write::PLACES, WRITE_ROOM, &mut desk.random);
     let expected = answers::write(*address, *level, lists);
     desk.write((*address, *level, lists), borrowed(&expected), &for_write)?;
-    let for_segment = room(segment::PLACES, SEGMENT_ROOM, &mut desk.random);
+    let for_segment = room(columns::PLACES, SEGMENT_ROOM, &mut desk.random);
     let expected = answers::segment(*level, lists, BY_TRYING);
     desk.segment(*level, lists, borrowed(&expected), &for_segment)?;
     let for_corners = room(corners::PLACES, CORNER_ROOM, &mut desk.random);

@@ -1,16 +1,16 @@
 //! Each slice that a call fills, in its place: just long enough, short by one, and empty.
 
 use crate::answers::{self, borrowed};
-use crate::calls::{corners, read, segment, write};
+use crate::calls::{columns, corners, read, write};
 use crate::damage::damaged;
 use crate::desk::Desk;
 use crate::difference::Outcome;
 use crate::file;
-use crate::library::{CORNER_ROOM, READ_ROOM, REPORT_ROOM, SEGMENT_ROOM, WRITE_ROOM};
 use crate::room::Room;
-use crate::segments::{segments, BY_TRYING};
+use crate::segments::{BY_TRYING, segments};
 use crate::trace::{Lists, Trace};
 use crate::traces::small::small_trace;
+use humoraki::{CORNER_ROOM, READ_ROOM, REPORT_ROOM, SEGMENT_ROOM, WRITE_ROOM};
 
 /// How many traces are tried.
 const TRACES: usize = 20;
@@ -51,7 +51,7 @@ fn on_lists(desk: &mut Desk, trace: &Trace) -> Outcome {
         desk.write(handed, Ok(&file::bytes(trace)), &room)?;
     }
     let segments = segments(&trace.ranges, trace.level, BY_TRYING);
-    for room in rooms(segment::PLACES, SEGMENT_ROOM) {
+    for room in rooms(columns::PLACES, SEGMENT_ROOM) {
         desk.segment(trace.level, &lists, Ok(&segments), &room)?;
     }
     let k = trace.ranges.len();

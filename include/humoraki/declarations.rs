@@ -1,0 +1,57 @@
+//! The functions of libhumoraki.a, declared for Rust as `humoraki.h` has them.
+//!
+//! Nothing checks these declarations against the header, so they stand here alone: change both files together.
+
+// A slice's pointer and length share a line, as in the header.
+#[rustfmt::skip]
+macro_rules! declare {
+    ($($column:ident: $number:ty,)*) => {
+        #[link(name = "humoraki", kind = "static")]
+        unsafe extern "C" {
+            pub fn humoraki_read(
+                file: *const u8, file_len: usize,
+                times: *mut u32, times_len: usize,
+                lows: *mut i32, lows_len: usize,
+                highs: *mut i32, highs_len: usize,
+                address: *mut u16, level: *mut i32, ranges: *mut usize,
+            ) -> u8;
+
+            pub fn humoraki_write(
+                address: u16, level: i32,
+                times: *const u32, times_len: usize,
+                lows: *const i32, lows_len: usize,
+                highs: *const i32, highs_len: usize,
+                file: *mut u8, file_len: usize,
+                count: *mut usize,
+            ) -> u8;
+
+            pub fn humoraki_segment(
+                level: i32,
+                times: *const u32, times_len: usize,
+                lows: *const i32, lows_len: usize,
+                highs: *const i32, highs_len: usize,
+                $($column: *mut $number, _: usize,)*
+                count: *mut usize,
+            ) -> u8;
+
+            pub fn humoraki_corners(
+                k: usize,
+                times: *const u32, times_len: usize,
+                lows: *const i32, lows_len: usize,
+                highs: *const i32, highs_len: usize,
+                ps: *mut i64, ps_len: usize,
+                qs: *mut i64, qs_len: usize,
+                ds: *mut i64, ds_len: usize,
+                count: *mut usize,
+            ) -> u8;
+
+            pub fn humoraki_report(
+                file: *const u8, file_len: usize,
+                text: *mut u8, text_len: usize,
+                count: *mut usize,
+            ) -> u8;
+        }
+    };
+}
+
+segment_columns!(declare);

@@ -1,0 +1,170 @@
+//! Humoraki for Rust: safe functions over the C interface that `humoraki.h` describes.
+//!
+//! With cargo this is the crate `humoraki`. A program without cargo takes the folder as a module, and tells the
+//! compiler where libhumoraki.a is, which `rt staticlib humoraki` writes to target/staticlib/.
+//!
+//! The functions here lend memory of the least length and hand back what was filled; those of `lent` take memory that
+//! the caller lends. What the header asks of a caller holds of every slice in Rust, so nothing is left to keep.
+//!
+//! An `Err` has the number of a refusal; `meaning` says it in words.
+
+// A program that takes this as a module calls what it needs of it.
+#![allow(dead_code)]
+
+#[macro_use]
+mod columns;
+mod declarations;
+pub mod lent;
+#[cfg(test)]
+mod tests;
+
+use self::lent::{Lines, Ranges, Table};
+
+/// The least number of entries in each slice that a function fills: times, lows and highs of `read`.
+pub const READ_ROOM: usize = 4096;
+
+/// The bytes of `write`.
+pub const WRITE_ROOM: usize = 61_451;
+
+/// Each column of `segment`.
+pub const SEGMENT_ROOM: usize = 2048;
+
+/// The ps, qs and ds of `corners`.
+pub const CORNER_ROOM: usize = 8192;
+
+/// The text of `report`: 256 bytes for each of 2,049 lines.
+pub const REPORT_ROOM: usize = 524_544;
+
+/// Stands for a time that there is not, in the columns `somes` and `alls`.
+pub const NONE: u64 = 4_294_967_296;
+
+/// A trace: a detector's address, its service level and its ranges, in three lists of one length.
+#[derive(Clone, Debug, PartialEq, Eq)]
+pub struct Trace {
+    pub address: u16,
+    pub level: i32,
+    pub times: Vec<u32>,
+    pub lows: Vec<i32>,
+    pub highs: Vec<i32>,
+}
+
+impl Trace {
+    pub fn ranges(&self) -> Ranges<'_> {
+        Ranges { times: &self.times, lows: &self.lows, highs: &self.highs }
+    }
+}
+
+/// A line: its value at t is (p * t + q) / d.
+#[derive(Clone, Copy, Debug, PartialEq, Eq)]
+pub struct Line {
+    pub p: i64,
+    pub q: i64,
+    pub d: i64,
+}
+
+/// The lines of a segment and its two times, or open where it has one range. `None` is no such time.
+#[derive(Clone, Copy, Debug, PartialEq, Eq)]
+pub enum Outlook {
+    Open,
+    Lines { slow: Line, fast: Line, some: Option<u32>, all: Option<u32> },
+}
+
+/// A run of ranges that one line fits.
+#[derive(Clone, Copy, Debug, PartialEq, Eq)]
+pub struct Segment {
+    pub first_time: u32,
+    pub last_time: u32,
+    pub ranges: u32,
+    pub outlook: Outlook,
+}
+
+/// What the number of a refusal means.
+pub fn meaning(refusal: u8) -> &'static str {
+    match refusal {
+        1 => "the file ends before a needed field, or inside a field",
+        2 => "the tag is not the one due",
+        3 => "the length is not the tag's",
+        4 => "address, level, low or high outside its span",
+        5 => "low above high",
+        6 => "time not above the one before",
+        7 => "a 4,097th range",
+        8 => "a lent slice to be filled is too short",
+        9 => "k is 0 or above the number of ranges",
+        10 => "times, lows and highs differ in length",
+        _ => "no refusal has this number",
+    }
+}
+
+/// The trace that a file's bytes hold.
+pub fn read(file: &[u8]) -> Result<Trace, u8> {
+    let mut times = vec![0; READ_ROOM];
+    let mut lows = vec![0; READ_ROOM];
+    let mut highs = vec![0; READ_ROOM];
+    let (mut address, mut level, mut ranges) = (0, 0, 0);
+    lent::read(file, &mut times, &mut lows, &mut highs, &mut address, &mut level, &mut ranges)?;
+    times.truncate(ranges);
+    lows.truncate(ranges);
+    highs.truncate(ranges);
+    Ok(Trace { address, level, times, lows, highs })
+}
+
+/// The bytes of a trace's file.
+pub fn write(trace: &Trace) -> Result<Vec<u8>, u8> {
+    let mut file = vec![0; WRITE_ROOM];
+    let mut count = 0;
+    lent::write(trace.address, trace.level, trace.ranges(), &mut file, &mut count)?;
+    file.truncate(count);
+    Ok(file)
+}
+
+/// The segments of a trace.
+pub fn segment(trace: &Trace) -> Result<Vec<Segment>, u8> {
+    let mut table = Table::holding(0);
+    let mut count = 0;
+    lent::segment(trace.level, trace.ranges(), table.columns(), &mut count)?;
+    Ok((0..count).map(|place| segment_at(&table, place)).collect())
+}
+
+/// The corners of the fit of the segment then running after the first k ranges, in corner order; no corners where that
+/// segment has one range so far.
+pub fn corners(trace: &Trace, k: usize) -> Result<Vec<Line>, u8> {
+    let [mut ps, mut qs, mut ds] = [(); 3].map(|()| vec![0; CORNER_ROOM]);
+    let mut count = 0;
+    lent::corners(k, trace.ranges(), Lines { ps: &mut ps, qs: &mut qs, ds: &mut ds }, &mut count)?;
+    Ok((0..count).map(|place| Line { p: ps[place], q: qs[place], d: ds[place] }).collect())
+}
+
+/// The text of a file's report. A file that is turned down has one too.
+pub fn report(file: &[u8]) -> Vec<u8> {
+    let mut text = vec![0; REPORT_ROOM];
+    let mut count = 0;
+    lent::report(file, &mut text, &mut count).expect("a text of the least length");
+    text.truncate(count);
+    text
+}
+
+fn segment_at(table: &Table, place: usize) -> Segment {
+    Segment {
+        first_time: table.first_times[place],
+        last_time: table.last_times[place],
+        ranges: table.counts[place],
+        outlook: outlook_at(table, place),
+    }
+}
+
+fn outlook_at(table: &Table, place: usize) -> Outlook {
+    if table.counts[place] == 1 {
+        return Outlook::Open;
+    }
+    Outlook::Lines {
+        slow: Line { p: table.slow_ps[place], q: table.slow_qs[place], d: table.slow_ds[place] },
+        fast: Line { p: table.fast_ps[place], q: table.fast_qs[place], d: table.fast_ds[place] },
+        some: time(table.somes[place]),
+        all: time(table.alls[place]),
+    }
+}
+
+/// `NONE` is the least number that is no time.
+fn time(number: u64) -> Option<u32> {
+    u32::try_from(number).ok()
+}
