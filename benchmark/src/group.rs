@@ -29,12 +29,7 @@ impl Group {
             count = agreed_count(call, &traces);
             measures.push(Measure::new(call, traces));
         }
-        Group {
-            call,
-            shape,
-            count,
-            measures,
-        }
+        Group { call, shape, count, measures }
     }
 
     pub fn round(&mut self, one: &mut Buffers, other: &mut Buffers) {

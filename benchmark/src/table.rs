@@ -33,11 +33,7 @@ fn shape_name(shape: Shape) -> &'static str {
 
 /// A number with a comma before its last three digits.
 fn with_comma(n: usize) -> String {
-    if n < 1000 {
-        n.to_string()
-    } else {
-        format!("{},{:03}", n / 1000, n % 1000)
-    }
+    if n < 1000 { n.to_string() } else { format!("{},{:03}", n / 1000, n % 1000) }
 }
 
 fn print_row(heads: [&str; 3], numbers: &[f64], digits: usize, last: &str) {
@@ -59,11 +55,7 @@ fn print_group(group: &Group) {
     let grown = |numbers: &[f64]| format!("{:.2}", growth(numbers));
     let heads = [call, shape_name(group.shape), "proved, ns"];
     print_row(heads, &proved, 1, &grown(&proved));
-    let heads = [
-        "",
-        &format!("{counted}: {}", with_comma(group.count)),
-        "unproved, ns",
-    ];
+    let heads = ["", &format!("{counted}: {}", with_comma(group.count)), "unproved, ns"];
     print_row(heads, &unproved, 1, &grown(&unproved));
     print_row(["", "", "ratio"], &ratio, 2, "");
 }

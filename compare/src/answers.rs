@@ -4,7 +4,7 @@
 use crate::file;
 use crate::line::Line;
 use crate::report;
-use crate::segments::{segments, stages, Fitter, Segment};
+use crate::segments::{Fitter, Segment, segments, stages};
 use crate::trace::{Lists, Range, Trace};
 use crate::trial;
 use std::borrow::Borrow;

@@ -5,7 +5,7 @@
 
 use crate::file::{bytes, field_start};
 use crate::random::Random;
-use crate::trace::{Trace, LARGEST_VALUE, LEAST_VALUE};
+use crate::trace::{LARGEST_VALUE, LEAST_VALUE, Trace};
 
 type ValueDamage = fn(&mut Trace, &mut Random);
 type ByteDamage = fn(&mut Vec<u8>, &mut Random);

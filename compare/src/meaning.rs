@@ -3,9 +3,9 @@
 
 use crate::difference::{Difference, Outcome};
 use crate::file;
-use crate::line::{turn, Line};
+use crate::line::{Line, turn};
 use crate::outlook::Outlook;
-use crate::segments::{stages, Segment, Stage, BY_CLIPPING, BY_TRYING};
+use crate::segments::{BY_CLIPPING, BY_TRYING, Segment, Stage, stages};
 use crate::splits::{closed_by_three, no_split_is_better};
 use crate::trace::{Lists, Range, Trace};
 

@@ -2,7 +2,7 @@
 
 use crate::clipping;
 use crate::line::Line;
-use crate::outlook::{outlook, Outlook};
+use crate::outlook::{Outlook, outlook};
 use crate::trace::Range;
 use crate::trying;
 use std::iter::successors;

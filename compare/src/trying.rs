@@ -4,7 +4,7 @@
 //! turned a little both ways about that end and still fits, so it is between two others. A fitting line that touches
 //! an end of each of two ranges is between no two others: both would have to pass through these two ends.
 
-use crate::line::{turn, Line};
+use crate::line::{Line, turn};
 use crate::trace::Range;
 
 /// The corners of the fit of two or more ranges in corner order; none if no line fits.

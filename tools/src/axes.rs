@@ -50,9 +50,6 @@ pub fn ticks((least, greatest): (f64, f64), about: f64) -> Vec<f64> {
     let steps = [power, 2.0 * power, 5.0 * power];
     let step = steps.into_iter().find(|step| *step >= rough);
     let step = step.unwrap_or(10.0 * power);
-    let (first, last) = (
-        (least / step).ceil() as i64,
-        (greatest / step).floor() as i64,
-    );
+    let (first, last) = ((least / step).ceil() as i64, (greatest / step).floor() as i64);
     (first..=last).map(|count| count as f64 * step).collect()
 }

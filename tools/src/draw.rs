@@ -63,7 +63,5 @@ fn text_of(path: &OsString) -> Result<String, String> {
 }
 
 fn send(picture: &str) -> Result<(), String> {
-    io::stdout()
-        .write_all(picture.as_bytes())
-        .map_err(|error| format!("standard output: {error}"))
+    io::stdout().write_all(picture.as_bytes()).map_err(|error| format!("standard output: {error}"))
 }

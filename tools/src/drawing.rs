@@ -1,19 +1,14 @@
 //! The picture of a trace: its ranges, its segments with their slow and fast lines, the service
 //! level, and for the last segments how the fitting lines go on until they reach the level.
 
-use crate::axes::{ticks, widened, Axes, Frame};
+use crate::axes::{Axes, Frame, ticks, widened};
 use crate::lines::{Lines, Range};
 use crate::report_text::{Line, Outlook, Segment};
 use crate::svg::{Pen, Point, Shapes, Side};
 
 const WIDTH: f64 = 960.0;
 const MARGIN: f64 = 24.0;
-const FRAME: Frame = Frame {
-    left: 96.0,
-    right: 830.0,
-    top: 92.0,
-    bottom: 400.0,
-};
+const FRAME: Frame = Frame { left: 96.0, right: 830.0, top: 92.0, bottom: 400.0 };
 
 /// Below the time axis is a row for each outlook, and then the legend.
 const FIRST_ROW: f64 = FRAME.bottom + 52.0;
@@ -87,18 +82,11 @@ pub fn picture(trace: &Lines, segments: &[Segment]) -> String {
 }
 
 fn last_outlooks(segments: &[Segment]) -> Vec<Shown<'_>> {
-    let outlooks: Vec<(&Segment, &Outlook)> = segments
-        .iter()
-        .filter_map(|segment| Some((segment, segment.outlook.as_ref()?)))
-        .collect();
+    let outlooks: Vec<(&Segment, &Outlook)> =
+        segments.iter().filter_map(|segment| Some((segment, segment.outlook.as_ref()?))).collect();
     let first = outlooks.len().saturating_sub(OUTLOOKS);
     let rows = outlooks[first..].iter().zip(0..);
-    rows.map(|(&(segment, outlook), row)| Shown {
-        y: FIRST_ROW + ROW * f64::from(row),
-        segment,
-        outlook,
-    })
-    .collect()
+    rows.map(|(&(segment, outlook), row)| Shown { y: FIRST_ROW + ROW * f64::from(row), segment, outlook }).collect()
 }
 
 fn axes_of(trace: &Lines, shown: &[Shown]) -> Axes {
@@ -110,11 +98,7 @@ fn axes_of(trace: &Lines, shown: &[Shown]) -> Axes {
         .flatten()
         .map(|time| f64::from(time) - last)
         .fold(NEAREST * length, f64::max);
-    let values = trace
-        .ranges
-        .iter()
-        .flat_map(|range| [range.low, range.high])
-        .chain([trace.level]);
+    let values = trace.ranges.iter().flat_map(|range| [range.low, range.high]).chain([trace.level]);
     Axes {
         frame: FRAME,
         times: widened((first, last + ahead.min(FARTHEST * length)), 0.04),
@@ -134,9 +118,7 @@ fn bar_width(axes: &Axes, ranges: &[Range]) -> f64 {
 /// The least and the greatest of some numbers.
 fn span(numbers: impl Iterator<Item = f64>) -> (f64, f64) {
     let start = (f64::INFINITY, f64::NEG_INFINITY);
-    numbers.fold(start, |(least, greatest), number| {
-        (least.min(number), greatest.max(number))
-    })
+    numbers.fold(start, |(least, greatest), number| (least.min(number), greatest.max(number)))
 }
 
 fn name(segment: &Segment) -> String {
@@ -179,8 +161,7 @@ impl Drawing {
             let name = name(segment);
             if right - left > LETTER * name.len() as f64 {
                 let above = ((left + right) / 2.0, FRAME.top - 14.0);
-                self.shapes
-                    .text(above, Side::Around, colour(segment), &name);
+                self.shapes.text(above, Side::Around, colour(segment), &name);
             }
         }
     }
@@ -188,12 +169,7 @@ impl Drawing {
     /// A dotted stroke from the level down to its row, for each time in the view.
     fn drops(&mut self, shown: &[Shown]) {
         let level = self.axes.y(self.level);
-        for Shown {
-            y,
-            segment,
-            outlook,
-        } in shown
-        {
+        for Shown { y, segment, outlook } in shown {
             for x in [outlook.some, outlook.all].map(|time| self.end(time)) {
                 if x < FRAME.right {
                     let dots = pen(colour(segment), 1.3, DOTTED);
@@ -209,13 +185,11 @@ impl Drawing {
             let x = self.axes.x(time);
             let grid = pen(FAINT, 1.0, WHOLE);
             self.shapes.stroke((x, FRAME.top), (x, FRAME.bottom), grid);
-            self.shapes
-                .text((x, y), Side::Around, INK, &time.to_string());
+            self.shapes.text((x, y), Side::Around, INK, &time.to_string());
         }
         let (start, end) = ((FRAME.left, FRAME.bottom), (FRAME.right, FRAME.bottom));
         self.shapes.stroke(start, end, pen(INK, 1.0, WHOLE));
-        self.shapes
-            .text((FRAME.left - GAP, y), Side::Left, INK, "time");
+        self.shapes.text((FRAME.left - GAP, y), Side::Left, INK, "time");
     }
 
     fn signal_axis(&mut self) {
@@ -224,19 +198,14 @@ impl Drawing {
             let y = self.axes.y(value);
             let grid = pen(FAINT, 1.0, WHOLE);
             self.shapes.stroke((FRAME.left, y), (FRAME.right, y), grid);
-            self.shapes
-                .text((x, y), Side::Left, INK, &value.to_string());
+            self.shapes.text((x, y), Side::Left, INK, &value.to_string());
         }
-        self.shapes
-            .text((x, FRAME.top - 14.0), Side::Left, INK, "signal");
+        self.shapes.text((x, FRAME.top - 14.0), Side::Left, INK, "signal");
     }
 
     /// Where the fitting lines go on after a segment, as long as they are below the level.
     fn fans(&mut self, shown: &[Shown]) {
-        for Shown {
-            segment, outlook, ..
-        } in shown
-        {
+        for Shown { segment, outlook, .. } in shown {
             let Outlook { slow, fast, .. } = **outlook;
             let last = f64::from(segment.times.1);
             let (slow_end, fast_end) = (self.leaves(slow, last), self.leaves(fast, last));
@@ -282,8 +251,7 @@ impl Drawing {
         let (start, end) = ((FRAME.left, y), (FRAME.right, y));
         self.shapes.stroke(start, end, pen(LEVEL, 1.6, WHOLE));
         let beside = (FRAME.right + GAP, y);
-        self.shapes
-            .text(beside, Side::Right, LEVEL, &format!("level {level}"));
+        self.shapes.text(beside, Side::Right, LEVEL, &format!("level {level}"));
     }
 
     /// The slow and the fast line of each segment, from its first range to its last.
@@ -307,12 +275,7 @@ impl Drawing {
 
     /// A row for each outlook, with the service window from *some* to *all*.
     fn rows(&mut self, shown: &[Shown]) {
-        for Shown {
-            y,
-            segment,
-            outlook,
-        } in shown
-        {
+        for Shown { y, segment, outlook } in shown {
             let beside = (FRAME.left - GAP, *y);
             let colour = colour(segment);
             self.shapes.text(beside, Side::Left, colour, &name(segment));
@@ -350,11 +313,7 @@ impl Drawing {
 }
 
 fn pen<'a>(colour: &'a str, width: f64, dashes: &'static str) -> Pen<'a> {
-    Pen {
-        colour,
-        width,
-        dashes,
-    }
+    Pen { colour, width, dashes }
 }
 
 /// A range: an upright bar with a cap at each end.

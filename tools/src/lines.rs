@@ -30,34 +30,19 @@ struct Span {
 }
 
 const fn value(name: &'static str) -> Span {
-    Span {
-        name,
-        least: -268_435_456,
-        greatest: 268_435_456,
-    }
+    Span { name, least: -268_435_456, greatest: 268_435_456 }
 }
 
-const ADDRESS: Span = Span {
-    name: "address",
-    least: 1,
-    greatest: 255,
-};
-const TIME: Span = Span {
-    name: "time",
-    least: 0,
-    greatest: 4_294_967_295,
-};
+const ADDRESS: Span = Span { name: "address", least: 1, greatest: 255 };
+const TIME: Span = Span { name: "time", least: 0, greatest: 4_294_967_295 };
 const LEVEL: Span = value("level");
 const LOW: Span = value("low");
 const HIGH: Span = value("high");
 
 /// The trace that a text describes, or what is wrong with its first bad line.
 pub fn parse(text: &str) -> Result<Lines, String> {
-    let mut lines = text
-        .lines()
-        .zip(1..)
-        .map(|(line, number)| (number, words(line)))
-        .filter(|(_, words)| !words.is_empty());
+    let mut lines =
+        text.lines().zip(1..).map(|(line, number)| (number, words(line))).filter(|(_, words)| !words.is_empty());
     let Some((number, first)) = lines.next() else {
         return Err(format!("no lines; expected first: {FIRST_LINE}"));
     };
@@ -67,11 +52,7 @@ pub fn parse(text: &str) -> Result<Lines, String> {
         let range = parse_next(&words, &ranges).map_err(|wrong| at_line(number, wrong))?;
         ranges.push(range);
     }
-    Ok(Lines {
-        address,
-        level,
-        ranges,
-    })
+    Ok(Lines { address, level, ranges })
 }
 
 fn at_line(number: u64, wrong: String) -> String {
@@ -97,20 +78,15 @@ fn parse_next(words: &[&str], before: &[Range]) -> Result<Range, String> {
     let range = parse_range(words)?;
     let Range { time, low, high } = range;
     if before.len() == MOST_RANGES {
-        return Err(format!(
-            "one range too many; expected at most {MOST_RANGES}"
-        ));
+        return Err(format!("one range too many; expected at most {MOST_RANGES}"));
     }
     if low > high {
-        return Err(format!(
-            "low {low} is above high {high}; expected low at most high"
-        ));
+        return Err(format!("low {low} is above high {high}; expected low at most high"));
     }
     match before.last() {
-        Some(last) if time <= last.time => Err(format!(
-            "time {time} is not above {}, the time before; expected rising times",
-            last.time
-        )),
+        Some(last) if time <= last.time => {
+            Err(format!("time {time} is not above {}, the time before; expected rising times", last.time))
+        }
         _ => Ok(range),
     }
 }
@@ -118,24 +94,15 @@ fn parse_next(words: &[&str], before: &[Range]) -> Result<Range, String> {
 fn parse_range(words: &[&str]) -> Result<Range, String> {
     let [time, low, high] = words else {
         let found = words.join(" ");
-        return Err(format!(
-            "found '{found}'; expected three numbers: time low high"
-        ));
+        return Err(format!("found '{found}'; expected three numbers: time low high"));
     };
-    Ok(Range {
-        time: TIME.parse(time)? as u32,
-        low: LOW.parse(low)? as i32,
-        high: HIGH.parse(high)? as i32,
-    })
+    Ok(Range { time: TIME.parse(time)? as u32, low: LOW.parse(low)? as i32, high: HIGH.parse(high)? as i32 })
 }
 
 impl Span {
     fn parse(&self, word: &str) -> Result<i64, String> {
         let inside = |number: &i64| (self.least..=self.greatest).contains(number);
-        word.parse()
-            .ok()
-            .filter(inside)
-            .ok_or_else(|| self.wrong(word))
+        word.parse().ok().filter(inside).ok_or_else(|| self.wrong(word))
     }
 
     fn wrong(&self, word: &str) -> String {
@@ -143,11 +110,7 @@ impl Span {
             true => "is outside its span",
             false => "is not a whole number",
         };
-        let Span {
-            name,
-            least,
-            greatest,
-        } = self;
+        let Span { name, least, greatest } = self;
         format!("{name} {word} {how}; expected {least} to {greatest}")
     }
 }

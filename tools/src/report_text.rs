@@ -33,15 +33,12 @@ pub fn parse(text: &str) -> Result<Vec<Segment>, String> {
     if !first.starts_with("detector ") {
         return Err(format!("expected the report of a trace, found '{first}'"));
     }
-    lines
-        .map(|line| segment(line).ok_or_else(|| format!("expected a segment, found '{line}'")))
-        .collect()
+    lines.map(|line| segment(line).ok_or_else(|| format!("expected a segment, found '{line}'"))).collect()
 }
 
 fn segment(line: &str) -> Option<Segment> {
     let words: Vec<&str> = line.split(' ').collect();
-    let ["segment", place, "from", first, "to", last, "ranges", ranges, rest @ ..] = &words[..]
-    else {
+    let ["segment", place, "from", first, "to", last, "ranges", ranges, rest @ ..] = &words[..] else {
         return None;
     };
     Some(Segment {
@@ -55,7 +52,6 @@ fn segment(line: &str) -> Option<Segment> {
     })
 }
 
-#[rustfmt::skip]
 fn outlook(words: &[&str]) -> Option<Outlook> {
     let ["slow", p1, q1, d1, "fast", p2, q2, d2, "some", some, "all", all] = words else {
         return None;

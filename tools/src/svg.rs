@@ -44,9 +44,7 @@ text {{ font: 13px system-ui, 'DejaVu Sans', sans-serif; paint-order: stroke; st
     }
 
     pub fn heading(&mut self, (x, y): Point, colour: &str, text: &str) {
-        self.0 += &format!(
-            "<text class=\"heading\" x=\"{x:.1}\" y=\"{y:.1}\" fill=\"{colour}\">{text}</text>\n"
-        );
+        self.0 += &format!("<text class=\"heading\" x=\"{x:.1}\" y=\"{y:.1}\" fill=\"{colour}\">{text}</text>\n");
     }
 
     pub fn text(&mut self, (x, y): Point, side: Side, colour: &str, text: &str) {
@@ -56,13 +54,11 @@ text {{ font: 13px system-ui, 'DejaVu Sans', sans-serif; paint-order: stroke; st
             Side::Left => "end",
         };
         let y = y + HALF_LETTER;
-        self.0 += &format!(
-            "<text x=\"{x:.1}\" y=\"{y:.1}\" text-anchor=\"{anchor}\" fill=\"{colour}\">{text}</text>\n"
-        );
+        self.0 +=
+            &format!("<text x=\"{x:.1}\" y=\"{y:.1}\" text-anchor=\"{anchor}\" fill=\"{colour}\">{text}</text>\n");
     }
 
     pub fn stroke(&mut self, (x1, y1): Point, (x2, y2): Point, pen: Pen) {
-        #[rustfmt::skip]
         let Pen { colour, width, dashes } = pen;
         self.0 += &format!(
             "<path d=\"M{x1:.1} {y1:.1}L{x2:.1} {y2:.1}\" stroke=\"{colour}\" \
@@ -71,14 +67,9 @@ text {{ font: 13px system-ui, 'DejaVu Sans', sans-serif; paint-order: stroke; st
     }
 
     pub fn area(&mut self, corners: &[Point], colour: &str, opacity: f64) {
-        let corners: Vec<String> = corners
-            .iter()
-            .map(|(x, y)| format!("{x:.1},{y:.1}"))
-            .collect();
-        self.0 += &format!(
-            "<polygon points=\"{}\" fill=\"{colour}\" fill-opacity=\"{opacity}\"/>\n",
-            corners.join(" ")
-        );
+        let corners: Vec<String> = corners.iter().map(|(x, y)| format!("{x:.1},{y:.1}")).collect();
+        self.0 +=
+            &format!("<polygon points=\"{}\" fill=\"{colour}\" fill-opacity=\"{opacity}\"/>\n", corners.join(" "));
     }
 
     /// The upright area between two opposite corners.

@@ -52,10 +52,7 @@ fn drop_head(end_of: impl Fn(u32) -> Point, chain: &[u32], part: Part, new: Poin
 
 impl Chains<'_> {
     pub fn mirror(&mut self) -> Chains<'_> {
-        Chains {
-            up: self.down,
-            down: self.up,
-        }
+        Chains { up: self.down, down: self.up }
     }
 
     /// Both chains shortened at the top of range k, which is between the slow and the fast line.

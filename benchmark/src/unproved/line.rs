@@ -21,11 +21,7 @@ fn gcd(a: u64, b: u64) -> u64 {
 
 impl Line {
     pub fn through(a: Point, b: Point) -> Line {
-        Line {
-            p: b.value - a.value,
-            q: a.value * b.time - b.value * a.time,
-            d: b.time - a.time,
-        }
+        Line { p: b.value - a.value, q: a.value * b.time - b.value * a.time, d: b.time - a.time }
     }
 
     /// Above 0 where the line is above the point, and 0 where it touches it.
@@ -47,21 +43,13 @@ impl Line {
 
     /// Every value negated.
     pub fn negated(self) -> Line {
-        Line {
-            p: -self.p,
-            q: -self.q,
-            d: self.d,
-        }
+        Line { p: -self.p, q: -self.q, d: self.d }
     }
 
     /// The line with no common divisor above 1.
     pub fn reduced(self) -> Line {
         let shared = gcd(self.p.unsigned_abs(), self.q.unsigned_abs());
         let g = gcd(shared, self.d.unsigned_abs()) as i64;
-        Line {
-            p: self.p / g,
-            q: self.q / g,
-            d: self.d / g,
-        }
+        Line { p: self.p / g, q: self.q / g, d: self.d / g }
     }
 }

@@ -6,12 +6,7 @@ use super::line::Line;
 #[derive(Clone, Copy)]
 pub enum Outlook {
     Open,
-    Lines {
-        slow: Line,
-        fast: Line,
-        some: Option<u32>,
-        all: Option<u32>,
-    },
+    Lines { slow: Line, fast: Line, some: Option<u32>, all: Option<u32> },
 }
 
 /// n / d rounded up, for d above 0.

@@ -17,12 +17,7 @@ impl Polygon {
     /// The polygon whose chains are the first n entries of their slices.
     fn of_first_entries(n: usize, slow: Line, fast: Line) -> Self {
         let entries = Part { start: 0, end: n };
-        Polygon {
-            upper: entries,
-            lower: entries,
-            slow,
-            fast,
-        }
+        Polygon { upper: entries, lower: entries, slow, fast }
     }
 
     /// The polygon of ranges i and k.
@@ -42,21 +37,12 @@ impl Polygon {
 
     /// The same polygon with one line for both.
     fn alone(self, line: Line) -> Self {
-        Polygon {
-            slow: line,
-            fast: line,
-            ..self
-        }
+        Polygon { slow: line, fast: line, ..self }
     }
 
     /// Every value negated, so that the chains and the lines change places.
     fn mirror(self) -> Self {
-        Polygon {
-            upper: self.lower,
-            lower: self.upper,
-            slow: self.fast.negated(),
-            fast: self.slow.negated(),
-        }
+        Polygon { upper: self.lower, lower: self.upper, slow: self.fast.negated(), fast: self.slow.negated() }
     }
 
     /// The lines at or below the top of range k, where slow is below it and fast above it.
@@ -70,10 +56,7 @@ impl Polygon {
         }
         Polygon {
             upper: Part { end, ..self.upper },
-            lower: Part {
-                start: trimmed.start,
-                ..self.lower
-            },
+            lower: Part { start: trimmed.start, ..self.lower },
             slow: self.slow,
             fast: trimmed.fast,
         }
@@ -93,9 +76,7 @@ impl Polygon {
 
     /// The lines at or above the bottom of range k: the cut above in the mirror.
     fn cut_below(self, ends: Ends<false>, chains: &mut Chains, k: u32) -> Self {
-        let cut = self
-            .mirror()
-            .cut_above(ends.mirror(), &mut chains.mirror(), k);
+        let cut = self.mirror().cut_above(ends.mirror(), &mut chains.mirror(), k);
         cut.mirror()
     }
 

@@ -18,10 +18,7 @@ fn closes(ends: Ends<false>, polygon: &Polygon, k: u32) -> bool {
 /// The run from range i on, among the first n.
 pub fn run_from(ends: Ends<false>, chains: &mut Chains, i: u32, n: u32) -> Reach {
     if n - i < 2 {
-        return Reach {
-            end: n,
-            polygon: None,
-        };
+        return Reach { end: n, polygon: None };
     }
     let mut polygon = Polygon::of_two(ends, chains, i, i + 1);
     let mut k = i + 2;
@@ -29,10 +26,7 @@ pub fn run_from(ends: Ends<false>, chains: &mut Chains, i: u32, n: u32) -> Reach
         polygon = polygon.join(ends, chains, k);
         k += 1;
     }
-    Reach {
-        end: k,
-        polygon: Some(polygon),
-    }
+    Reach { end: k, polygon: Some(polygon) }
 }
 
 /// The polygon of the segment then running after the first k ranges.

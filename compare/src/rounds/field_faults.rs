@@ -5,8 +5,8 @@ use crate::desk::Desk;
 use crate::difference::Outcome;
 use crate::file::{bytes, field_start};
 use crate::random::Random;
-use crate::segments::{Fitter, BY_CLIPPING, BY_TRYING};
-use crate::trace::{Range, Trace, MOST_RANGES};
+use crate::segments::{BY_CLIPPING, BY_TRYING, Fitter};
+use crate::trace::{MOST_RANGES, Range, Trace};
 use crate::traces::long::full;
 use crate::traces::small::small_trace;
 

@@ -6,8 +6,8 @@ use crate::file;
 use crate::meaning;
 use crate::report;
 use crate::room::Room;
-use crate::segments::{stages, Segment, Stage, BY_CLIPPING};
-use crate::trace::{Lists, Range, Trace, MOST_RANGES};
+use crate::segments::{BY_CLIPPING, Segment, Stage, stages};
+use crate::trace::{Lists, MOST_RANGES, Range, Trace};
 use crate::traces::levels::level;
 use crate::traces::long::SHAPES;
 

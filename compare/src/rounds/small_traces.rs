@@ -9,9 +9,9 @@ use crate::meaning;
 use crate::outlook::Outlook;
 use crate::report;
 use crate::room::Room;
-use crate::segments::{segments, stages, Segment, Stage, BY_TRYING};
+use crate::segments::{BY_TRYING, Segment, Stage, segments, stages};
 use crate::tally::Tally;
-use crate::trace::{Lists, Range, Trace, LARGEST_ADDRESS, LAST_TIME};
+use crate::trace::{LARGEST_ADDRESS, LAST_TIME, Lists, Range, Trace};
 use crate::traces::levels::level;
 use crate::traces::small::{kinds, small_ranges};
 

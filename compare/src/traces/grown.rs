@@ -4,8 +4,8 @@
 use super::small::inside;
 use crate::line::Line;
 use crate::random::Random;
-use crate::segments::{Stage, BY_CLIPPING};
-use crate::trace::{Range, LAST_TIME};
+use crate::segments::{BY_CLIPPING, Stage};
+use crate::trace::{LAST_TIME, Range};
 
 /// How far ahead a time is sought at which a corner has a whole value.
 const FAR: u32 = 60;

@@ -4,7 +4,7 @@
 use super::small::inside;
 use crate::random::Random;
 use crate::segments::Stage;
-use crate::trace::{Range, LARGEST_VALUE, LAST_TIME, LEAST_VALUE};
+use crate::trace::{LARGEST_VALUE, LAST_TIME, LEAST_VALUE, Range};
 
 pub fn level(ranges: &[Range], stages: &[Stage], random: &mut Random) -> i32 {
     match random.below(8) {

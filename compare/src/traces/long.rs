@@ -4,7 +4,7 @@ use super::grown::grown;
 use super::small::inside;
 use crate::line::Line;
 use crate::random::Random;
-use crate::trace::{Range, LARGEST_VALUE, LAST_TIME, LEAST_VALUE};
+use crate::trace::{LARGEST_VALUE, LAST_TIME, LEAST_VALUE, Range};
 
 type Formula = fn(usize, &mut Random) -> Vec<Range>;
 

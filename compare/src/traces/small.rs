@@ -4,7 +4,7 @@ use super::grown;
 use super::times::times;
 use crate::line::Line;
 use crate::random::Random;
-use crate::trace::{Range, Trace, LARGEST_ADDRESS, LARGEST_VALUE, LEAST_VALUE};
+use crate::trace::{LARGEST_ADDRESS, LARGEST_VALUE, LEAST_VALUE, Range, Trace};
 
 const MOST: usize = 10;
 
