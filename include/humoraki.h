@@ -44,9 +44,8 @@ extern "C" {
 #define HUMORAKI_NONE UINT64_C(4294967296)
 
 /*
- * The columns of a segment's row, as parameters in their order: eleven slices, each filled with one entry for each
- * segment. A line has the value (p * t + q) / d at t. A segment of one range is open: it has 0 in every column after
- * counts.
+ * The columns of a segment's row, as parameters in their order: slices, each filled with one entry for each segment.
+ * A line has the value (p * t + q) / d at t. A segment of one range is open: it has 0 in every column after counts.
  */
 #define HUMORAKI_SEGMENT_COLUMNS \
     uint32_t *first_times, size_t first_times_len, /* the time of the segment's first range */ \

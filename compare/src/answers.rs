@@ -1,5 +1,5 @@
-//! The answer that document 01 asks of each call, on slices that are long enough: what is to be filled, or the number
-//! of the first refusal.
+//! The answer that the scope asks of each call, on slices that are long enough: what is to be filled, or the number of
+//! the first refusal.
 
 use crate::file;
 use crate::line::Line;

@@ -1,4 +1,4 @@
-//! A difference between what document 01 asks for and what was given, told so that it can be tried again.
+//! A difference between what the scope asks for and what was given, told so that it can be tried again.
 
 use std::fmt;
 

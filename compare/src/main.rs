@@ -1,4 +1,4 @@
-//! Compares libhumoraki.a with brute force written from the words of document 01.
+//! Compares libhumoraki.a with brute force written from the words of the scope, docs/SCOPE.md.
 //!
 //! `compare [SEED [TRACES]]`: the same seed gives the same traces. A difference is printed with its trace and ends
 //! the program with status 1; else the last line says that there is none.

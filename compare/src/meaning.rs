@@ -1,4 +1,4 @@
-//! What is expected of a small trace, held to the words of the demands and of document 01 once more: corners fit and
+//! What is expected of a small trace, held to the words of the demands and of the scope once more: corners fit and
 //! are between no two others, no time before the two times will do, and no split does better than the segments.
 
 use crate::difference::{Difference, Outcome};
@@ -37,7 +37,7 @@ fn difference(trace: &Trace, given: String) -> Box<Difference> {
     Box::new(Difference {
         call: format!("the brute force itself, level {}", trace.level),
         ranges: Lists::of(&trace.ranges).in_words(),
-        expected: "agreement with the words of the paper".to_string(),
+        expected: "agreement with the words of the scope".to_string(),
         given,
         file: file::bytes(trace),
     })

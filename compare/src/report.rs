@@ -1,4 +1,4 @@
-//! The text of a report, from the words of document 01.
+//! The text of a report, from the words of the scope.
 
 use crate::line::Line;
 use crate::outlook::Outlook;

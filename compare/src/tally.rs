@@ -17,7 +17,7 @@ const CALLS: [(Call, &str); 5] = [
     (Call::Report, "report"),
 ];
 
-/// How many refusals document 01 has.
+/// How many refusals the scope has.
 const REFUSALS: usize = 10;
 
 #[derive(Default)]

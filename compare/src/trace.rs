@@ -1,4 +1,4 @@
-//! Traces as document 01 has them, and their ranges as three lists that may be wrong.
+//! Traces as the scope has them, and their ranges as three lists that may be wrong.
 
 pub const LAST_TIME: u32 = 4_294_967_295;
 pub const LEAST_VALUE: i32 = -268_435_456;

@@ -1,4 +1,4 @@
-//! The worked cases of document 01, number by number: what is expected here is held to the paper before the library
+//! The worked cases of the scope, number by number: what is expected here is held to the scope before the library
 //! is held to it.
 
 use crate::answers::{self, borrowed};
@@ -47,35 +47,35 @@ fn ranges(numbers: &[(u32, i32, i32)]) -> Vec<Range> {
     numbers.iter().map(|&(time, low, high)| Range { time, low, high }).collect()
 }
 
-fn corners(desk: &mut Desk, k: usize, ranges: &[Range], paper: Result<&[Numbers], u8>) -> Outcome {
+fn corners(desk: &mut Desk, k: usize, ranges: &[Range], scope: Result<&[Numbers], u8>) -> Outcome {
     let lists = Lists::of(ranges);
     let expected = answers::corners(k, &lists, BY_TRYING);
     let numbers = expected.as_ref().map(|corners| {
         let numbers = corners.iter().map(|line| [line.p, line.q, line.d]);
         numbers.collect::<Vec<Numbers>>()
     });
-    let paper = paper.map(<[Numbers]>::to_vec);
-    agree(format!("{paper:?}"), format!("{:?}", numbers.map_err(|number| *number)), &lists)?;
-    desk.tally.add("worked cases of the paper", 1);
+    let scope = scope.map(<[Numbers]>::to_vec);
+    agree(format!("{scope:?}"), format!("{:?}", numbers.map_err(|number| *number)), &lists)?;
+    desk.tally.add("worked cases of the scope", 1);
     desk.corners(k, &lists, borrowed(&expected), &Room::enough())
 }
 
 /// The number of segments, and whether the last is open.
-fn segments(desk: &mut Desk, numbers: &[(u32, i32, i32)], paper: Result<(usize, bool), u8>) -> Outcome {
+fn segments(desk: &mut Desk, numbers: &[(u32, i32, i32)], scope: Result<(usize, bool), u8>) -> Outcome {
     let lists = Lists::of(&ranges(numbers));
     let expected = answers::segment(20, &lists, BY_TRYING);
     let open = |last: Option<&Outlook>| last == Some(&Outlook::Open);
     let found =
         expected.as_ref().map(|segments| (segments.len(), open(segments.last().map(|segment| &segment.outlook))));
-    agree(format!("{paper:?}"), format!("{:?}", found.map_err(|number| *number)), &lists)?;
-    desk.tally.add("worked cases of the paper", 1);
+    agree(format!("{scope:?}"), format!("{:?}", found.map_err(|number| *number)), &lists)?;
+    desk.tally.add("worked cases of the scope", 1);
     desk.segment(20, &lists, borrowed(&expected), &Room::enough())
 }
 
-fn report(desk: &mut Desk, file: &[u8], paper: &str) -> Outcome {
+fn report(desk: &mut Desk, file: &[u8], scope: &str) -> Outcome {
     let lists = Lists::of(&file::visible(file).ranges);
-    agree(paper.to_string(), answers::report(file, BY_TRYING), &lists)?;
-    desk.tally.add("worked cases of the paper", 1);
+    agree(scope.to_string(), answers::report(file, BY_TRYING), &lists)?;
+    desk.tally.add("worked cases of the scope", 1);
     desk.file(file, BY_TRYING)
 }
 
@@ -84,7 +84,7 @@ fn agree(expected: String, given: String, lists: &Lists) -> Outcome {
         return Ok(());
     }
     Err(Box::new(Difference {
-        call: "the brute force itself, against the paper".to_string(),
+        call: "the brute force itself, against the scope".to_string(),
         ranges: lists.in_words(),
         expected,
         given,
