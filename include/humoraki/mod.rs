@@ -20,19 +20,19 @@ mod tests;
 
 use self::lent::{Lines, Ranges, Table};
 
-/// The least number of entries in each slice that a function fills: times, lows and highs of `read`.
+/// The least length of each list that `lent::read` fills.
 pub const READ_ROOM: usize = 4096;
 
-/// The bytes of `write`.
+/// The least length of the file that `lent::write` fills.
 pub const WRITE_ROOM: usize = 61_451;
 
-/// Each column of `segment`.
+/// The least length of each column that `lent::segment` fills.
 pub const SEGMENT_ROOM: usize = 2048;
 
-/// The ps, qs and ds of `corners`.
+/// The least length of each slice that `lent::corners` fills.
 pub const CORNER_ROOM: usize = 8192;
 
-/// The text of `report`: 256 bytes for each of 2,049 lines.
+/// The least length of the text that `lent::report` fills: 256 bytes for each of 2,049 lines.
 pub const REPORT_ROOM: usize = 524_544;
 
 /// Stands for a time that there is not, in the columns `somes` and `alls`.
