@@ -1,3 +1,5 @@
+//! The calls, on a trace whose answers are known.
+
 use super::*;
 
 /// The trace of the repository's first sample.
