@@ -1,9 +1,9 @@
-// The lines of a report, part by part.
+// The lines of a report, part by part. Each asks for room for the longest text that it may put.
 ghost use Prim.Native.Nat.{_+_, _≤_};
 ghost use mathlib.Core.List.{_++_};
 ghost use lib.ListN.{length};
 ghost use Rattle.definitions.specs.Report.{timeText, outlookText, refusedLine, traceLine, spanText, segmentLine};
-ghost use Rattle.text.specs.Put.{Room, Put};
+ghost use Rattle.text.specs.Put.{Put};
 ghost use Rattle.values.specs.Meanings.{lineOf, timeOf, outlookOf, segmentOf};
 ghost use Rattle.report_text.specs.Lines.{lineBytes};
 use text::put_count;
@@ -43,20 +43,20 @@ pub fn put_heading(
     put_word(text, next, b"\n")
 }
 
-// A word and a line's three numbers.
+// A word and a line's three numbers, each of at most 20 bytes.
 fn put_line(text: &mut [u8], at: usize, word: &[u8], l: Line) -> usize
-    requires { ⌜ Room at (lineBytes (now word) (lineOf l)) (now text) ⌝ }
-    ensures { λ r. ⌜ Put at (lineBytes (now (word .entry)) (lineOf l)) (now (text .entry)) r (now (text .exit)) ⌝ }
+    requires { ⌜ (length (now word) ≤ 6) × (at + 68 ≤ length (now text)) ⌝ }
+    ensures { λ r. ⌜ (Put at (lineBytes (now (word .entry)) (lineOf l)) (now (text .entry)) r (now (text .exit))) × (r ≤ at + 68) ⌝ }
 {
     let next = put_value(text, at, word, l.p);
     let next = put_value(text, next, b" ", l.q);
     put_value(text, next, b" ", l.d)
 }
 
-// A word and a time.
+// A word and a time, of at most 10 bytes.
 fn put_time(text: &mut [u8], at: usize, word: &[u8], time: Time) -> usize
-    requires { ⌜ Room at (now word ++ timeText (timeOf time)) (now text) ⌝ }
-    ensures { λ r. ⌜ Put at (now (word .entry) ++ timeText (timeOf time)) (now (text .entry)) r (now (text .exit)) ⌝ }
+    requires { ⌜ (length (now word) ≤ 6) × (at + 16 ≤ length (now text)) ⌝ }
+    ensures { λ r. ⌜ (Put at (now (word .entry) ++ timeText (timeOf time)) (now (text .entry)) r (now (text .exit))) × (r ≤ at + 16) ⌝ }
 {
     let next = put_word(text, at, word);
     match time {
@@ -67,8 +67,8 @@ fn put_time(text: &mut [u8], at: usize, word: &[u8], time: Time) -> usize
 
 // Open, or the two lines and the two times.
 fn put_outlook(text: &mut [u8], at: usize, outlook: Outlook) -> usize
-    requires { ⌜ Room at (outlookText (outlookOf outlook)) (now text) ⌝ }
-    ensures { λ r. ⌜ Put at (outlookText (outlookOf outlook)) (now (text .entry)) r (now (text .exit)) ⌝ }
+    requires { ⌜ at + 168 ≤ length (now text) ⌝ }
+    ensures { λ r. ⌜ (Put at (outlookText (outlookOf outlook)) (now (text .entry)) r (now (text .exit))) × (r ≤ at + 168) ⌝ }
 {
     match outlook {
         Outlook::Open => put_word(text, at, b" open"),
@@ -88,8 +88,8 @@ fn put_outlook(text: &mut [u8], at: usize, outlook: Outlook) -> usize
 
 // A segment's place, times and number of ranges.
 fn put_span(text: &mut [u8], at: usize, place: u32, first: u32, last: u32, count: u32) -> usize
-    requires { ⌜ Room at (spanText place first last count) (now text) ⌝ }
-    ensures { λ r. ⌜ Put at (spanText place first last count) (now (text .entry)) r (now (text .exit)) ⌝ }
+    requires { ⌜ at + 66 ≤ length (now text) ⌝ }
+    ensures { λ r. ⌜ (Put at (spanText place first last count) (now (text .entry)) r (now (text .exit))) × (r ≤ at + 66) ⌝ }
 {
     let next = put_count(text, at, b"segment ", place as u64);
     let next = put_count(text, next, b" from ", first as u64);

@@ -1,10 +1,13 @@
 -- `report_text::report_lines::put_span` meets its contract: four words, each with its number, one after the other. Assumes nothing.
-use Prim.Native.Nat.{ℕ}
+use Prim.Native.Nat.{ℕ, _≤_}
 use mathlib.Core.List.{List, _++_}
+use native.Mathlib.Omega.{arith}
+use lib.ListN.{length}
 use borrow.Author.Needs.{needs}
 use Rattle.definitions.specs.Report.{labelled, decimal, spanText}
 use Rattle.text.specs.Put.{Room, Put}
 use Rattle.text.specs.PutLaws.{put-length, put-then, room-front, room-then}
+use Rattle.report_text.specs.Short.{span-short}
 use Rattle.report_text.proofs.report_lines.put_span.Statement.{statement}
 use Rattle.report_text.proofs.report_lines.put_span.Tie as tie
 
@@ -24,9 +27,12 @@ count s = labelled " ranges " (decimal (s .args .count))
 
 -- ---- room for them
 
+short : (s : tie.Start) → length (spanText (s .args .place) (s .args .first) (s .args .last) (s .args .count)) ≤ 66
+short s = span-short (s .args .place) (s .args .first) (s .args .last) (s .args .count) (s .fits .place) (s .fits .first) (s .fits .last) (s .fits .count)
+
 room : (s : tie.Start) → Room (s .args .at) (place s ++ first s ++ last s ++ count s) (s .args .text .now)
 unfolding spanText
-room s = s .pre
+room s = omega (arith, s .pre, short s)
 
 room-three : (s : tie.Start) → Room (s .args .at) (place s ++ first s ++ last s) (s .args .text .now)
 room-three s = room-front (s .args .at) (place s ++ first s ++ last s) (count s) (s .args .text .now) (room s)
@@ -76,7 +82,7 @@ same-length : tie.Need-same-length
 same-length c = put-length (whole (c .before .before))
 
 returns : tie.Need-returns
-returns c = whole (c .before .before)
+returns c = let done = whole (c .before .before) in (done, omega (arith, done .next-is, short (c .before .before .before .before .before .before .before .before .before .before .before .before .before .before .before .before .before .before .before .before .before)))
 
 pub put-span-spec : {M : Type 1} → statement M
 put-span-spec =

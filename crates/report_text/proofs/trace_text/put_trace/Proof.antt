@@ -11,6 +11,7 @@ use Rattle.drift.specs.Columns.{Columns, columns}
 use Rattle.drift.specs.SegmentPromise.{SegmentPromise}
 use Rattle.text.specs.Put.{Put}
 use Rattle.text.specs.PutLaws.{put-length, put-then}
+use Rattle.drift.specs.GivenColumns.{rows-room}
 use Rattle.report_text.specs.SegmentText.{zeroColumns, zero-lengths, few-given, text-accepted, text-refused}
 use Rattle.report_text.proofs.trace_text.put_trace.Statement.{statement}
 use Rattle.report_text.proofs.trace_text.put_trace.Tie as tie
