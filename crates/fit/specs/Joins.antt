@@ -3,10 +3,10 @@
 --     LineJoining, line-joining, joining-ends                  the line through two ends
 --     PointAt, point-slow, point-cut, point-fast, point-none   the lines through the one value of a range
 --     JoinedAt, join-cuts, join-point                          a range joined: with a low below its high, with one value
---     StartedAt, start-first, start-second, start-both         the polygon of two ranges: the first has one value, only the second has, neither has
+--     StartedAt, firstPart, started-by                         the polygon of two ranges: of the two entries of each chain, those that are left where it is known which ranges have width
 --
 -- Assumes nothing.
-use mathlib.Core.Path.{_≡_, sym, _∙_, ap, ap₂, subst}
+use mathlib.Core.Path.{_≡_, refl, sym, _∙_, ap, ap₂, subst}
 use mathlib.Core.Bool.{Bool, true, false}
 use mathlib.Core.List.{List, [], _∷_}
 use Prim.Native.Nat.{ℕ, _+_, _<_, _≤_}
@@ -22,13 +22,14 @@ use Rattle.chains.specs.Ends.{H, L}
 use Rattle.chains.specs.Start.{start, startWith}
 use Rattle.chains.specs.PopEnd.{popAbove, popBelow, popSpot, popJoin}
 use Rattle.drift_laws.specs.TestedSigns.{less-yes, equal-of}
-use Rattle.drift_laws.specs.EndReads.{span-alone, span-two}
-use Rattle.drift_laws.specs.ChainParts.{Chain, store, Long, between, ofChain, alone, two}
+use Rattle.drift_laws.specs.EndReads.{span-alone, span-two, span-part}
+use Rattle.drift_laws.specs.ChainParts.{Chain, store, Long, part, between, ofChain, alone, two}
 use Rattle.drift_laws.specs.PolygonSteps as Steps
 use Rattle.values.specs.declared.Line.{Line}
 use Rattle.fit.specs.declared.points.Point.{Point}
 use Rattle.fit.specs.declared.ends.End.{End}
 use Rattle.fit.specs.declared.ends.Range.{Range}
+use Rattle.fit.specs.declared.polygon.Part.{Part}
 use Rattle.fit.specs.declared.polygon.Polygon.{Polygon}
 use Rattle.fit.specs.declared.chain.Trimmed.{Trimmed}
 use Rattle.values.specs.Meanings.{lineOf}
@@ -181,17 +182,54 @@ module _ {up down up′ down′ : Chain} {x y : Polygon} {r : Range} where
       }
 
 -- ---- two ranges
-module _ {r s : Range} (pr : ProperRange (rangeOf r)) (ps : ProperRange (rangeOf s)) {up down : Chain} (lu : Long 2 up) (ld : Long 2 down) {v y : Line} (sl : LineJoining (highOf r) (lowOf s) v) (fl : LineJoining (lowOf r) (highOf s) y) {first : Bool} (e : first ≡ ltZ (r .low) (r .high)) where
-  -- what the first n entries of the slices stand for, with the two lines
-  abbrev entries : ℕ → Polygon
-  entries n = record { upper = record { start = 0; end = n }; lower = record { start = 0; end = n }; slow = v; fast = y }
 
-  started : (up′ down′ : Chain) (n : ℕ) {us ls : List PointTerm} → n ≤ 2 → Held (record { start = 0; end = n }) up′ → Held (record { start = 0; end = n }) down′
-      → between (ofChain false up′) 0 n ≡ us → between (ofChain false down′) 0 n ≡ ls → start (rangeOf r) (rangeOf s) ≡ startWith us ls (rangeOf r) (rangeOf s)
-      → {x : Polygon} → x ≡ entries n → StartedAt r s up′ down′ x
-  started up′ down′ n h hu hd p q m o =
-      subst (StartedAt r s up′ down′) (sym o)
-      (record {
+-- the first of two points alone, and the second alone
+front : List PointTerm → List PointTerm
+front [] = []
+front (A ∷ l) = A ∷ []
+
+back : List PointTerm → List PointTerm
+back [] = []
+back (A ∷ l) = l
+
+held-part : {c : Chain} (a b : ℕ) → a < b → b ≤ 2 → Held (record { start = 0; end = 2 }) c → Held (record { start = a; end = b }) c
+held-part a b h k w =
+    record {
+      some = h;
+      long = record { times-long = omega (arith, w .long .times-long); values-long = omega (arith, w .long .values-long) };
+      in-span = span-part (w .in-span) (omega arith) k;
+    }
+
+-- which of two entries two ranges leave, where it is known whether each has width
+unfoldable pub firstPart : Bool → Bool → Part
+firstPart true true = record { start = 0; end = 2 }
+firstPart true false = record { start = 1; end = 2 }
+firstPart false second = record { start = 0; end = 1 }
+
+module _ {r s : Range} (pr : ProperRange (rangeOf r)) (ps : ProperRange (rangeOf s)) {up down : Chain} (lu : Long 2 up) (ld : Long 2 down) {v y : Line} (sl : LineJoining (highOf r) (lowOf s) v) (fl : LineJoining (lowOf r) (highOf s) y) where
+  abbrev ups : Chain
+  ups = putEnd (putEnd up 0 (highOf r)) 1 (highOf s)
+
+  abbrev downs : Chain
+  downs = putEnd (putEnd down 0 (lowOf r)) 1 (lowOf s)
+
+  highs-held : Held (record { start = 0; end = 2 }) ups
+  highs-held = held-two up (highOf r) (highOf s) lu (pr .high-within) (ps .high-within)
+
+  lows-held : Held (record { start = 0; end = 2 }) downs
+  lows-held = held-two down (lowOf r) (lowOf s) ld (pr .low-within) (ps .low-within)
+
+  highs-are : between (ofChain false ups) 0 2 ≡ H (rangeOf r) ∷ H (rangeOf s) ∷ []
+  highs-are = two false up (r .time) (r .high) (s .time) (s .high) lu ∙ ap₂ (λ A B. A ∷ B ∷ []) (high-is r) (high-is s)
+
+  lows-are : between (ofChain false downs) 0 2 ≡ L (rangeOf r) ∷ L (rangeOf s) ∷ []
+  lows-are = two false down (r .time) (r .low) (s .time) (s .low) ld ∙ ap₂ (λ A B. A ∷ B ∷ []) (low-is r) (low-is s)
+
+  started : (a b : ℕ) {us ls : List PointTerm} → a < b → b ≤ 2
+      → between (ofChain false ups) a b ≡ us → between (ofChain false downs) a b ≡ ls → start (rangeOf r) (rangeOf s) ≡ startWith us ls (rangeOf r) (rangeOf s)
+      → StartedAt r s ups downs (record { upper = record { start = a; end = b }; lower = record { start = a; end = b }; slow = v; fast = y })
+  started a b h k p q m =
+      record {
         is =
             (λ j.
             record {
@@ -201,33 +239,20 @@ module _ {r s : Range} (pr : ProperRange (rangeOf r)) (ps : ProperRange (rangeOf
               fast = (fl .is ∙ ap₂ (λ A B. through A B) (low-is r) (high-is s)) j;
             })
             ∙ sym m;
-        shape = record { upper-held = hu; lower-held = hd; slow-in = sl .bounded; fast-in = fl .bounded };
-        few = record { up-to = h; down-to = h };
-      })
+        shape = record { upper-held = held-part a b h k highs-held; lower-held = held-part a b h k lows-held; slow-in = sl .bounded; fast-in = fl .bounded };
+        few = record { up-to = k; down-to = k };
+      }
 
-  one-up : Long 1 up
-  one-up = one-long lu (omega arith)
+  by-widths : (first second : Bool) → first ≡ ltZ (r .low) (r .high) → second ≡ ltZ (s .low) (s .high)
+      → StartedAt r s ups downs (record { upper = firstPart first second; lower = firstPart first second; slow = v; fast = y })
+  unfolding firstPart front back part
+  by-widths true true e f = started 0 2 (omega arith) (omega arith) highs-are lows-are (Steps.start-both (rangeOf r) (rangeOf s) (less-yes (sym e)) (less-yes (sym f)))
+  by-widths true false e f = started 1 2 (omega arith) (omega arith) (ap back highs-are) (ap back lows-are) (Steps.start-second (rangeOf r) (rangeOf s) (less-yes (sym e)) (equal-of (ps .low-high) f refl))
+  by-widths false second e f = started 0 1 (omega arith) (omega arith) (ap front highs-are) (ap front lows-are) (Steps.start-first (rangeOf r) (rangeOf s) (equal-of (pr .low-high) e refl))
 
-  one-down : Long 1 down
-  one-down = one-long ld (omega arith)
-
-  alone-started : (t : Range) (p : ProperRange (rangeOf t)) → start (rangeOf r) (rangeOf s) ≡ startWith (H (rangeOf t) ∷ []) (L (rangeOf t) ∷ []) (rangeOf r) (rangeOf s)
-      → {up′ down′ : Chain} → up′ ≡ putEnd up 0 (highOf t) → down′ ≡ putEnd down 0 (lowOf t) → {x : Polygon} → x ≡ entries 1 → StartedAt r s up′ down′ x
-  alone-started t p m {up′} {down′} a b {x} o =
-      subst2 (λ u d. StartedAt r s u d x) (sym a) (sym b)
-      (started (putEnd up 0 (highOf t)) (putEnd down 0 (lowOf t)) 1 (omega arith) (held-one up (highOf t) one-up (p .high-within)) (held-one down (lowOf t) one-down (p .low-within))
-      (alone false up (t .time) (t .high) one-up ∙ ap (λ A. A ∷ []) (high-is t)) (alone false down (t .time) (t .low) one-down ∙ ap (λ A. A ∷ []) (low-is t)) m o)
-
-  pub start-first : first ≡ false → {up′ down′ : Chain} → up′ ≡ putEnd up 0 (highOf r) → down′ ≡ putEnd down 0 (lowOf r) → {x : Polygon} → x ≡ entries 1 → StartedAt r s up′ down′ x
-  start-first o a b q = alone-started r pr (Steps.start-first (rangeOf r) (rangeOf s) (equal-of (pr .low-high) e o)) a b q
-
-  module _ (o : first ≡ true) {second : Bool} (f : second ≡ ltZ (s .low) (s .high)) where
-    pub start-second : second ≡ false → {up′ down′ : Chain} → up′ ≡ putEnd up 0 (highOf s) → down′ ≡ putEnd down 0 (lowOf s) → {x : Polygon} → x ≡ entries 1 → StartedAt r s up′ down′ x
-    start-second h a b q = alone-started s ps (Steps.start-second (rangeOf r) (rangeOf s) (less-yes (sym e ∙ o)) (equal-of (ps .low-high) f h)) a b q
-
-    pub start-both : second ≡ true → {up′ down′ : Chain} → up′ ≡ putEnd (putEnd up 0 (highOf r)) 1 (highOf s) → down′ ≡ putEnd (putEnd down 0 (lowOf r)) 1 (lowOf s) → {x : Polygon} → x ≡ entries 2 → StartedAt r s up′ down′ x
-    start-both h {up′} {down′} a b {x} q =
-        subst2 (λ u d. StartedAt r s u d x) (sym a) (sym b)
-        (started (putEnd (putEnd up 0 (highOf r)) 1 (highOf s)) (putEnd (putEnd down 0 (lowOf r)) 1 (lowOf s)) 2 (omega arith) (held-two up (highOf r) (highOf s) lu (pr .high-within) (ps .high-within)) (held-two down (lowOf r) (lowOf s) ld (pr .low-within) (ps .low-within))
-        (two false up (r .time) (r .high) (s .time) (s .high) lu ∙ ap₂ (λ A B. A ∷ B ∷ []) (high-is r) (high-is s)) (two false down (r .time) (r .low) (s .time) (s .low) ld ∙ ap₂ (λ A B. A ∷ B ∷ []) (low-is r) (low-is s))
-        (Steps.start-both (rangeOf r) (rangeOf s) (less-yes (sym e ∙ o)) (less-yes (sym f ∙ h))) q)
+  -- the first range stored, then the second, and what is left of the two
+  pub started-by : {up′ down′ up″ down″ : Chain} {p : Part} → up′ ≡ putEnd up 0 (highOf r) → down′ ≡ putEnd down 0 (lowOf r) → up″ ≡ putEnd up′ 1 (highOf s) → down″ ≡ putEnd down′ 1 (lowOf s)
+      → p ≡ firstPart (ltZ (r .low) (r .high)) (ltZ (s .low) (s .high)) → StartedAt r s up″ down″ (record { upper = p; lower = p; slow = v; fast = y })
+  started-by {p} a b c d e =
+      subst2 (λ u w. StartedAt r s u w (record { upper = p; lower = p; slow = v; fast = y })) (sym (c ∙ ap (λ u. putEnd u 1 (highOf s)) a)) (sym (d ∙ ap (λ w. putEnd w 1 (lowOf s)) b))
+      (subst (λ q. StartedAt r s ups downs (record { upper = q; lower = q; slow = v; fast = y })) (sym e) (by-widths (ltZ (r .low) (r .high)) (ltZ (s .low) (s .high)) refl refl))

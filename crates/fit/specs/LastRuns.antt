@@ -1,7 +1,7 @@
 -- The segment then running after the first k ranges, found from run to run.
 --
 --     run-joined                 a run is its front and the run behind it
---     Reached ls k up down i f   the segment running after k ranges is the last of those of the ranges from i up to k, and f is the run from i
+--     Reached ls k i             the segment running after k ranges is the last of those of the ranges from i up to k
 --     reached-first, reached-next   so it is at the first range, and at the end of each run that ends before k
 --     LastRun ls k up down r     the segment running after k ranges goes from `start` to k; it has a line, and `polygon` is its polygon if it has two ranges or more
 --     reached-last               so it is where the run goes up to k
@@ -35,9 +35,9 @@ pub record LastRun (ls : Lists) (k : ℕ) (up down : Chain) (r : Found) : Type 0
   pub line : HasLine (run ls (r .start) k)
   pub polygon-is : r .start + 2 ≤ k → PolygonAt ls up down (r .start) k (r .polygon)
 
-pub record Reached (ls : Lists) (k : ℕ) (up down : Chain) (i : ℕ) (f : Reach) : Type 0 where
+pub record Reached (ls : Lists) (k i : ℕ) : Type 0 where
+  pub before : i < k
   pub running-from : runningAfter k (rangesOf ls) ≡ lastRun (segments (run ls i k))
-  pub reach : RunFrom ls i k up down f
 
 -- the first run is not the last where ranges follow it
 later : (first : List Range) (x : Range) (xs : List Range) → lastRun (first ∷ segments (x ∷ xs)) ≡ lastRun (segments (x ∷ xs))
@@ -82,19 +82,18 @@ module _ {ls : Lists} (a : AcceptedLists ls) (k : ℕ) (within : k ≤ length (l
         ∙ later (run ls i e) (rangeAt ls e) xs
         ∙ ap (λ rs. lastRun (segments rs)) (sym rest)
 
-  pub reached-first : {up down : Chain} {f : Reach} → RunFrom ls 0 k up down f → Reached ls k up down 0 f
+  pub reached-first : 0 < k → Reached ls k 0
   unfolding runningAfter
-  reached-first r = let n : k ≡ k - 0 = omega arith in record { running-from = ap (λ n. lastRun (segments (take n (rangesOf ls)))) n; reach = r }
+  reached-first h = let n : k ≡ k - 0 = omega arith in record { before = h; running-from = ap (λ n. lastRun (segments (take n (rangesOf ls)))) n }
 
-  pub reached-next : {i : ℕ} {up down up′ down′ : Chain} {f g : Reach} → Reached ls k up down i f → f .end < k → RunFrom ls (f .end) k up′ down′ g → Reached ls k up′ down′ (f .end) g
-  reached-next z h r = record { running-from = z .running-from ∙ more (z .reach) h; reach = r }
+  pub reached-next : {i : ℕ} {up down : Chain} {f : Reach} → Reached ls k i → RunFrom ls i k up down f → f .end < k → Reached ls k (f .end)
+  reached-next z r h = record { before = h; running-from = z .running-from ∙ more r h }
 
-  pub reached-last : {i : ℕ} {up down : Chain} {f : Reach} → Reached ls k up down i f → k ≤ f .end → LastRun ls k up down (record { start = i; polygon = f .polygon })
-  reached-last {i} {up} {down} {f} z h =
-      let r = z .reach in
+  pub reached-last : {i : ℕ} {up down : Chain} {f : Reach} → Reached ls k i → RunFrom ls i k up down f → k ≤ f .end → LastRun ls k up down (record { start = i; polygon = f .polygon })
+  reached-last {i} {up} {down} {f} z r h =
       let e : f .end ≡ k = omega (arith, r .within) in
       record {
-        begins = omega (arith, r .begins);
+        begins = z .before;
         running-is = z .running-from ∙ only r h;
         line = subst (λ e. HasLine (run ls i e)) e (r .line);
         polygon-is = λ two. subst (λ e. PolygonAt ls up down i e (f .polygon)) e (r .polygon-is (omega arith));

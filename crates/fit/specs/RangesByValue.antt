@@ -8,7 +8,6 @@
 --     accepted-range         a range of accepted lists is proper
 --     high-is, low-is        the ends as points
 --     high-in, low-in        the ends of a proper range are within the span
---     stored-one, stored-two the first one, two ends of a chain
 --
 -- Assumes nothing.
 use mathlib.Core.Path.{_≡_, sym, _∙_, ap, ap₂, subst}
@@ -67,8 +66,3 @@ pub low-in : {e : End} {r : Range} → e ≡ lowOf r → ProperRange (rangeOf r)
 low-in e p = subst (λ f. Within mostValue (f .value)) (sym e) (p .low-within)
 
 -- ---- ends in a chain
-pub stored-one : (c : Chain) {c′ : Chain} {e f : End} → c′ ≡ putEnd c 0 e → e ≡ f → c′ ≡ putEnd c 0 f
-stored-one c p q = p ∙ ap (putEnd c 0) q
-
-pub stored-two : (c : Chain) {c′ c″ : Chain} {e f e′ f′ : End} → c′ ≡ putEnd c 0 e → e ≡ f → c″ ≡ putEnd c′ 1 e′ → e′ ≡ f′ → c″ ≡ putEnd (putEnd c 0 f) 1 f′
-stored-two c p q p′ q′ = p′ ∙ ap₂ (λ d e. putEnd d 1 e) (stored-one c p q) q′

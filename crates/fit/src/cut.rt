@@ -1,6 +1,7 @@
 // The polygon of a fit with one more range. The lower side is the upper side of the mirror image, so one cut serves both.
 ghost use mathlib.Core.Path.{_≡_};
 ghost use Prim.Native.Nat.{_+_};
+ghost use lib.Signed.{ltZ};
 ghost use Rattle.integers.specs.Bounds.{Within};
 ghost use Rattle.definitions.specs.Spans.{mostValue};
 ghost use Rattle.trial_laws.specs.Accepted.{ProperRange};
@@ -10,7 +11,7 @@ ghost use Rattle.fit.specs.RangesByValue.{rangeOf};
 ghost use Rattle.fit.specs.LinesOfEnds.{negD};
 ghost use Rattle.fit.specs.Polygons.{Shape};
 ghost use Rattle.fit.specs.Cuts.{shortenedTo, CutAt, AboveAt, BelowAt, flipped};
-ghost use Rattle.fit.specs.Joins.{LineJoining, PointAt, JoinedAt, StartedAt};
+ghost use Rattle.fit.specs.Joins.{LineJoining, PointAt, JoinedAt, StartedAt, firstPart};
 use crate::chain::Trimmed;
 use crate::chain::trim;
 use crate::ends::End;
@@ -20,6 +21,7 @@ use crate::ends::high_end;
 use crate::ends::low_end;
 use crate::ends::seen;
 use crate::ends::store;
+use crate::ends::store_range;
 use crate::points::above;
 use crate::points::reaches;
 use crate::points::steeper;
@@ -262,6 +264,19 @@ fn joining(a: End, b: End) -> Line
     through(n, m)
 }
 
+// Which of the first two entries of the chains two ranges leave: a range of one value is on both chains by itself.
+fn first_part(r: Range, s: Range) -> Part
+    ensures { λ p. ⌜ p ≡ firstPart (ltZ (r .low) (r .high)) (ltZ (s .low) (s .high)) ⌝ }
+{
+    if has_width(r) {
+        if has_width(s) {
+            return Part { start: 0, end: 2 };
+        }
+        return Part { start: 1, end: 2 };
+    }
+    Part { start: 0, end: 1 }
+}
+
 // The polygon of two ranges.
 pub fn begin(
     up_times: &mut [u32],
@@ -274,25 +289,15 @@ pub fn begin(
     requires { ⌜ (Long 2 (chain (now «up_times») (now «up_values»))) × (Long 2 (chain (now «down_times») (now «down_values»))) × (ProperRange (rangeOf r)) × (ProperRange (rangeOf s)) ⌝ }
     ensures { λ x. ⌜ StartedAt r s (chain (now («up_times» .exit)) (now («up_values» .exit))) (chain (now («down_times» .exit)) (now («down_values» .exit))) x ⌝ }
 {
-    let high = high_end(r);
-    let low = low_end(r);
-    let next_high = high_end(s);
-    let next_low = low_end(s);
-    let slow = joining(high, next_low);
-    let fast = joining(low, next_high);
-    if has_width(r) {
-        if has_width(s) {
-            store(up_times, up_values, 0, high);
-            store(up_times, up_values, 1, next_high);
-            store(down_times, down_values, 0, low);
-            store(down_times, down_values, 1, next_low);
-            return first_entries(2, slow, fast);
-        }
-        store(up_times, up_values, 0, next_high);
-        store(down_times, down_values, 0, next_low);
-        return first_entries(1, slow, fast);
+    let slow = joining(high_end(r), low_end(s));
+    let fast = joining(low_end(r), high_end(s));
+    store_range(up_times, up_values, down_times, down_values, 0, r);
+    store_range(up_times, up_values, down_times, down_values, 1, s);
+    let part = first_part(r, s);
+    Polygon {
+        upper: part,
+        lower: part,
+        slow: slow,
+        fast: fast,
     }
-    store(up_times, up_values, 0, high);
-    store(down_times, down_values, 0, low);
-    first_entries(1, slow, fast)
 }

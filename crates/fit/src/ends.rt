@@ -98,3 +98,19 @@ pub(crate) fn store(times: &mut [u32], values: &mut [i32], m: usize, e: End)
     times[m] = time;
     values[m] = value;
 }
+
+// Stores the high end and the low end of a range at a place of the two chains.
+pub(crate) fn store_range(
+    up_times: &mut [u32],
+    up_values: &mut [i32],
+    down_times: &mut [u32],
+    down_values: &mut [i32],
+    m: usize,
+    r: Range,
+)
+    requires { ⌜ (Long (suc m) (chain (now «up_times») (now «up_values»))) × (Long (suc m) (chain (now «down_times») (now «down_values»))) ⌝ }
+    ensures { λ _. ⌜ (chain (now («up_times» .exit)) (now («up_values» .exit)) ≡ putEnd (chain (now («up_times» .entry)) (now («up_values» .entry))) m (highOf r)) × (chain (now («down_times» .exit)) (now («down_values» .exit)) ≡ putEnd (chain (now («down_times» .entry)) (now («down_values» .entry))) m (lowOf r)) ⌝ }
+{
+    store(up_times, up_values, m, high_end(r));
+    store(down_times, down_values, m, low_end(r));
+}

@@ -28,20 +28,8 @@ pub fn last_run(
     ensures { λ r. ⌜ LastRun (lent (now (times .entry)) (now (highs .entry)) (now (lows .entry))) k (chain (now («up_times» .exit)) (now («up_values» .exit))) (chain (now («down_times» .exit)) (now («down_values» .exit))) r ⌝ }
 {
     let mut start = 0;
-    let mut reach = run_from(
-        times,
-        highs,
-        lows,
-        up_times,
-        up_values,
-        down_times,
-        down_values,
-        0,
-        k,
-    );
-    while reach.end < k {
-        start = reach.end;
-        reach = run_from(
+    loop {
+        let reach = run_from(
             times,
             highs,
             lows,
@@ -52,7 +40,11 @@ pub fn last_run(
             start,
             k,
         );
+        let end = reach.end;
+        if k <= end {
+            let polygon = reach.polygon;
+            return Found { start, polygon };
+        }
+        start = end;
     }
-    let polygon = reach.polygon;
-    Found { start, polygon }
 }
