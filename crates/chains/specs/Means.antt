@@ -1,6 +1,6 @@
 -- Weighted means as the scope has them, with natural weights and fractions, against sums of whole lines, c·l = Σ wᵢ·lᵢ.
 --
---     naturalWeights ws          the paper's weights wᵢ·dᵢ
+--     naturalWeights ws          the scope's weights wᵢ·dᵢ
 --     mean-of-whole              a mean by sums of whole lines is a mean with these weights
 --     weighted-mean              so WholeMean gives WeightedMean
 --     mean-of-between            a line strictly between two others is a mean of them by whole lines, with weights above 0
