@@ -1,9 +1,9 @@
--- `trace_tests::telling::lists_digest` is safe and ends. The measure is what is left of the entries.
+-- `trace_testing::telling::lists_digest` is safe and ends. The measure is what is left of the entries.
 -- Assumes nothing.
 use Prim.Native.Nat.{_-_}
 use borrow.Author.Needs.{needs}
-use Rattle.trace_tests.proofs.telling.lists_digest.Statement.{statement}
-use Rattle.trace_tests.proofs.telling.lists_digest.Tie as tie
+use Rattle.trace_testing.proofs.telling.lists_digest.Statement.{statement}
+use Rattle.trace_testing.proofs.telling.lists_digest.Tie as tie
 
 abbrev Inv-loop : tie.InvT-loop
 Inv-loop times lows highs digest₀ k₀ digest k = Unit

@@ -1,9 +1,9 @@
--- `trace_tests::reads::tell_ranges` is safe and ends. The measure is what is left of the ranges.
+-- `read_tests::changes::tell_ranges` is safe and ends. The measure is what is left of the ranges.
 -- Assumes nothing.
 use Prim.Native.Nat.{_-_}
 use borrow.Author.Needs.{needs}
-use Rattle.trace_tests.proofs.reads.tell_ranges.Statement.{statement}
-use Rattle.trace_tests.proofs.reads.tell_ranges.Tie as tie
+use Rattle.read_tests.proofs.changes.tell_ranges.Statement.{statement}
+use Rattle.read_tests.proofs.changes.tell_ranges.Tie as tie
 
 abbrev Inv-loop : tie.InvT-loop
 Inv-loop times lows highs n k₀ k = Unit

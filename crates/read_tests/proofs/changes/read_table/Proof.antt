@@ -1,17 +1,17 @@
--- `trace_tests::reads::read_table` is safe and ends. The slices keep their lengths; the measure is what is left of the table.
+-- `read_tests::changes::read_table` is safe and ends. The lists keep their lengths; the measure is what is left of the table.
 -- Assumes nothing.
 use Prim.Native.Nat.{_-_}
 use borrow.Author.Needs.{needs}
 use lib.ListN.{length}
 use mathlib.Core.Path.{_≡_}
-use Rattle.trace_tests.proofs.reads.read_table.Statement.{statement}
-use Rattle.trace_tests.proofs.reads.read_table.Tie as tie
+use Rattle.read_tests.proofs.changes.read_table.Statement.{statement}
+use Rattle.read_tests.proofs.changes.read_table.Tie as tie
 
 abbrev Inv-loop : tie.InvT-loop
-Inv-loop file₀ times₀ lows₀ highs₀ k₀ file times lows highs k = (length file ≡ length file₀) × (length times ≡ length times₀) × (length lows ≡ length lows₀) × (length highs ≡ length highs₀)
+Inv-loop times₀ lows₀ highs₀ k₀ times lows highs k = (length times ≡ length times₀) × (length lows ≡ length lows₀) × (length highs ≡ length highs₀)
 
 abbrev μ-loop : tie.MeasureT-loop
-μ-loop file₀ times₀ lows₀ highs₀ k₀ file times lows highs k = 48 - k
+μ-loop times₀ lows₀ highs₀ k₀ times lows highs k = 48 - k
 
 loop-holds : tie.Need-loop-holds Inv-loop μ-loop
 loop-holds c = search needs
@@ -46,9 +46,6 @@ same-length-2 c = search needs
 same-length-3 : tie.Need-same-length-3 Inv-loop μ-loop
 same-length-3 c = search needs
 
-same-length-4 : tie.Need-same-length-4 Inv-loop μ-loop
-same-length-4 c = search needs
-
 returns : tie.Need-returns Inv-loop μ-loop
 returns c = search needs
 
@@ -69,5 +66,4 @@ read-table-spec =
     same-length
     same-length-2
     same-length-3
-    same-length-4
     returns)

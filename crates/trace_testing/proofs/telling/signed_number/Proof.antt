@@ -1,11 +1,11 @@
--- `trace_tests::telling::signed_number` meets its contract: an i32 is an i64. Assumes nothing.
+-- `trace_testing::telling::signed_number` meets its contract: an i32 is an i64. Assumes nothing.
 use mathlib.Core.Path.{refl, sym, subst}
 use Prim.Native.Nat.{_<_, _^_}
 use native.Mathlib.Omega.{arith}
 use lib.Signed.{mag}
 use mir.Facts.{toZ-ofZ}
-use Rattle.trace_tests.proofs.telling.signed_number.Statement.{statement}
-use Rattle.trace_tests.proofs.telling.signed_number.Tie as tie
+use Rattle.trace_testing.proofs.telling.signed_number.Statement.{statement}
+use Rattle.trace_testing.proofs.telling.signed_number.Tie as tie
 
 slice-aggregate-say : tie.Need-slice-aggregate-say
 slice-aggregate-say c = refl

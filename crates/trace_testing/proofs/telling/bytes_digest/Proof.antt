@@ -1,10 +1,10 @@
--- `trace_tests::telling::bytes_digest` is safe and ends. The measure is what is left of the bytes.
+-- `trace_testing::telling::bytes_digest` is safe and ends. The measure is what is left of the bytes.
 -- Assumes nothing.
 use Prim.Native.Nat.{_-_}
 use borrow.Author.Needs.{needs}
 use lib.ListN.{length}
-use Rattle.trace_tests.proofs.telling.bytes_digest.Statement.{statement}
-use Rattle.trace_tests.proofs.telling.bytes_digest.Tie as tie
+use Rattle.trace_testing.proofs.telling.bytes_digest.Statement.{statement}
+use Rattle.trace_testing.proofs.telling.bytes_digest.Tie as tie
 
 abbrev Inv-loop : tie.InvT-loop
 Inv-loop file digest₀ k₀ digest k = Unit

@@ -1,11 +1,11 @@
--- `trace_tests::reads::read_each` is safe and ends. The lists keep their lengths; the measure is what is left of the numbers.
+-- `read_tests::sizes::read_each` is safe and ends. The lists keep their lengths; the measure is what is left of the numbers.
 -- Assumes nothing.
 use Prim.Native.Nat.{_-_}
 use borrow.Author.Needs.{needs}
 use lib.ListN.{length}
 use mathlib.Core.Path.{_≡_}
-use Rattle.trace_tests.proofs.reads.read_each.Statement.{statement}
-use Rattle.trace_tests.proofs.reads.read_each.Tie as tie
+use Rattle.read_tests.proofs.sizes.read_each.Statement.{statement}
+use Rattle.read_tests.proofs.sizes.read_each.Tie as tie
 
 abbrev Inv-loop : tie.InvT-loop
 Inv-loop file least end times₀ lows₀ highs₀ n₀ t8 times lows highs n = (length times ≡ length times₀) × (length lows ≡ length lows₀) × (length highs ≡ length highs₀)

@@ -1,0 +1,58 @@
+// Files that end early, files with too many ranges, and lists of other lengths.
+use definitions::limits::READ_ROOM;
+use definitions::limits::WRITE_ROOM;
+use fields::parts::part;
+use trace_testing::making::put_ends;
+use trace_testing::making::put_many;
+use trace_testing::making::put_sample;
+use trace_testing::reading::tell_read;
+use trace_testing::telling::title;
+use trace_testing::telling::title_of_three;
+
+// A file with a range field more than the largest.
+const ONE_TOO_MANY: usize = WRITE_ROOM + 15;
+
+// Reads the first n bytes, for each n from `least` to below `end`.
+fn read_each(
+    file: &[u8],
+    least: usize,
+    end: usize,
+    times: &mut [u32],
+    lows: &mut [i32],
+    highs: &mut [i32],
+) {
+    let mut n = least;
+    while n < end {
+        title(b"read", n);
+        tell_read(part(file, 0, n), times, lows, highs);
+        n += 1;
+    }
+}
+
+// A small file up to each length, and from one byte less than 4,096 ranges up to 4,097.
+pub fn files(times: &mut [u32], lows: &mut [i32], highs: &mut [i32]) {
+    let mut file = [0u8; ONE_TOO_MANY];
+    put_ends(&mut file);
+    read_each(&file, 0, 42, times, lows, highs);
+    put_many(&mut file, 4097);
+    read_each(&file, 61450, 61467, times, lows, highs);
+}
+
+fn read_into(times: &mut [u32], lows: &mut [i32], highs: &mut [i32]) {
+    let mut file = [0u8; 86];
+    put_sample(&mut file);
+    title_of_three(b"read into", times.len(), lows.len(), highs.len());
+    tell_read(&file, times, lows, highs);
+}
+
+pub fn lists() {
+    let mut times = [1u32; READ_ROOM + 1];
+    let mut lows = [2i32; READ_ROOM + 1];
+    let mut highs = [3i32; READ_ROOM + 1];
+    read_into(&mut times, &mut lows, &mut highs);
+    let mut short_times = [1u32; READ_ROOM - 1];
+    read_into(&mut short_times, &mut lows, &mut highs);
+    let mut short_values = [2i32; READ_ROOM - 1];
+    read_into(&mut times, &mut short_values, &mut highs);
+    read_into(&mut times, &mut lows, &mut short_values);
+}

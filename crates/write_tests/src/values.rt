@@ -1,0 +1,49 @@
+// Values at the ends of their spans, and past them.
+use crate::answers::tell_write;
+use testing::telling::say;
+use trace_testing::telling::number;
+use trace_testing::telling::signed_number;
+
+fn title_of_values(address: u16, level: i32, time: u32, low: i32, high: i32) {
+    say(b"write address");
+    number(address as u64);
+    say(b" level");
+    signed_number(level);
+    say(b" and");
+    number(time as u64);
+    signed_number(low);
+    signed_number(high);
+    say(b":");
+}
+
+// Two ranges, the first at the time 5.
+fn write_two(address: u16, level: i32, time: u32, low: i32, high: i32, file: &mut [u8]) {
+    let times = [5u32, time];
+    let lows = [low; 2];
+    let highs = [high; 2];
+    title_of_values(address, level, time, low, high);
+    tell_write(address, level, &times, &lows, &highs, file);
+}
+
+fn addresses_and_levels(file: &mut [u8]) {
+    write_two(0, 0, 6, 0, 0, file);
+    write_two(1, -268435456, 6, 0, 0, file);
+    write_two(255, 268435456, 6, 0, 0, file);
+    write_two(256, 0, 6, 0, 0, file);
+    write_two(1, -268435457, 6, 0, 0, file);
+    write_two(1, 268435457, 6, 0, 0, file);
+}
+
+fn times_and_values(file: &mut [u8]) {
+    write_two(1, 0, 4294967295, -268435456, 268435456, file);
+    write_two(1, 0, 5, -268435457, 0, file);
+    write_two(1, 0, 5, 0, 268435457, file);
+    write_two(1, 0, 5, 1, -268435457, file);
+    write_two(1, 0, 5, 1, 0, file);
+    write_two(1, 0, 5, 0, 0, file);
+}
+
+pub fn all(file: &mut [u8]) {
+    addresses_and_levels(file);
+    times_and_values(file);
+}
