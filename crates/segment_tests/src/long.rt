@@ -31,14 +31,22 @@ fn ranges(name: &[u8], shape: Shape, first: u64, gap: u64, level: i32) {
     lists(name, shape, first, gap, level, 4096, 4096);
 }
 
-fn one_segment() {
+// ---- one segment
+
+fn bowl() {
     ranges(b"bowl", Shape::Bowl, 0, 1, 268435456);
     ranges(b"bowl, wide gaps", Shape::Bowl, WIDE_FIRST, WIDE, 5000002);
     ranges(b"bowl, the last times", Shape::Bowl, LATE_FIRST, 1, 5004095);
+}
+
+fn waist() {
     ranges(b"waist", Shape::Waist, 0, 1, 268435456);
     ranges(b"waist, wide gaps", Shape::Waist, WIDE_FIRST, WIDE, 3);
     ranges(b"waist, the last times", Shape::Waist, LATE_FIRST, 1, 4095);
     lists(b"waist, first half", Shape::Waist, 0, 1, 2, 2048, 2048);
+}
+
+fn full() {
     ranges(b"full", Shape::Full, 0, 1, 0);
     ranges(b"full, wide gaps", Shape::Full, WIDE_FIRST, WIDE, 268435456);
     ranges(
@@ -50,7 +58,9 @@ fn one_segment() {
     );
 }
 
-fn most_segments() {
+// ---- as many segments as there can be
+
+fn parabola() {
     ranges(b"parabola", Shape::Parabola, 0, 1, 20000000);
     ranges(
         b"parabola, wide gaps",
@@ -75,6 +85,9 @@ fn most_segments() {
         4095,
         4095,
     );
+}
+
+fn zigzag() {
     ranges(b"zigzag", Shape::Zigzag, 0, 1, -268435456);
     ranges(b"zigzag, wide gaps", Shape::Zigzag, WIDE_FIRST, WIDE, 0);
     ranges(
@@ -86,11 +99,16 @@ fn most_segments() {
     );
 }
 
-fn between() {
+// ---- some in between
+
+fn drift() {
     ranges(b"drift", Shape::Drift, 0, 7, 20);
     ranges(b"drift, every gap 1", Shape::Drift, 0, 1, 0);
     ranges(b"drift, the last times", Shape::Drift, LATE_FIRST, 1, -20);
     ranges(b"drift, wide gaps", Shape::Drift, 0, WIDE_RAGGED, 56);
+}
+
+fn swings() {
     ranges(b"swings", Shape::Swings, 0, 100, 268435456);
     ranges(b"swings, every gap 1", Shape::Swings, 0, 1, 0);
     ranges(
@@ -108,6 +126,8 @@ fn between() {
         200000000,
     );
 }
+
+// ---- one range too many
 
 fn too_long() {
     lists(b"4097 ranges", Shape::Bowl, 0, 1, 0, 4097, 4097);
@@ -132,8 +152,12 @@ fn too_long() {
 }
 
 pub fn all() {
-    one_segment();
-    most_segments();
-    between();
+    bowl();
+    waist();
+    full();
+    parabola();
+    zigzag();
+    drift();
+    swings();
     too_long();
 }

@@ -111,14 +111,18 @@ fn tell_outlook(r: Row) {
     tell_time(r.all);
 }
 
-// The report's line of the segment at this place, counted from 1. One range is open.
-pub fn tell_row(place: usize, r: Row) {
+fn tell_span(place: usize, r: Row) {
     say(b"segment ");
     number(place as u64);
     say(b" from ");
     number(r.first_time as u64);
     say(b" to ");
     number(r.last_time as u64);
+}
+
+// The report's line of the segment at this place, counted from 1. One range is open.
+pub fn tell_row(place: usize, r: Row) {
+    tell_span(place, r);
     say(b" ranges ");
     number(r.count as u64);
     if r.count == 1 {
