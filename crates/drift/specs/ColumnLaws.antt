@@ -13,18 +13,12 @@
 -- Assumes nothing.
 use Prim.Native.Nat.{ℕ, suc, _+_, _≤_, _<_}
 use mathlib.Core.Path.{_≡_, refl, sym, ap, _∙_, subst}
-use mathlib.Core.Bool.{false}
 use mathlib.Core.List.{List, [], _∷_, _++_, map, map-append}
 use native.Mathlib.Omega.{arith}
 use native.Mathlib.Numerals.{add-one}
-use borrow.Author.Tests.{ltb-false}
-use lib.Dec.{ltb}
 use lib.ListN.{length, set, take, drop, length-append, length-drop, length-map}
 use lib.Seq.{drop-cons, set-at, append-snoc, take-all, take-add, drop-drop, length-take-le}
-use Rattle.integers.specs.Booleans.{or-neither}
-use Rattle.integers.specs.Lists.{any}
 use Rattle.definitions.specs.Results.{Numbers, Segment, numbersOf}
-use Rattle.definitions.specs.Trial.{tooShort}
 use Rattle.drift.specs.Columns.{Columns, each, each-apply, Room, SameLengths, Stored, Filled, FirstStored, AllStored}
 
 -- ---- room

@@ -23,7 +23,7 @@ use Rattle.definitions.specs.Ranges.{Range, Lists, rangesOf}
 use Rattle.definitions.specs.Fit.{HasLine}
 use Rattle.definitions.specs.Splits.{Split}
 use Rattle.definitions.specs.Segments.{segments}
-use Rattle.definitions.specs.Results.{Segment, segmentOf, segmentsOf, numbersOf}
+use Rattle.definitions.specs.Results.{segmentOf, segmentsOf, numbersOf}
 use Rattle.splits.specs.OrderedRanges.{firstTimeOf, lastTimeOf}
 use Rattle.splits.specs.RunTimes.{inSpan}
 use Rattle.splits.specs.Segments.{TwoWithout, segment-first-time, segment-last-time, segmentsOf-at}

@@ -1,7 +1,7 @@
 -- The segment that begins at a range, from the run that code found there.
 --
 --     segments-from              the segments from i on are the run from i and the segments from its end on
---     FoundAt ls i e s           s has the times and the number of ranges of the run from i to e
+--     foundAt ls i e o           the segment of the run from i to e, with the outlook o
 --     next-open, next-lines      a segment of one range is open; one of more has the outlook of the polygon's two lines
 --
 -- Assumes nothing.

@@ -11,11 +11,11 @@
 -- Assumes nothing.
 use mathlib.Core.Path.{_≡_, sym, _∙_, ap, ap₂, subst}
 use mathlib.Core.Bool.{Bool, true, false}
-use mathlib.Core.List.{List, [], _∷_, _++_}
-use Prim.Native.Nat.{ℕ, _+_, _-_, _<_, _≤_}
+use mathlib.Core.List.{[], _∷_, _++_}
+use Prim.Native.Nat.{ℕ, _+_, _-_, _≤_}
 use native.Mathlib.Omega.{arith}
-use lib.ListN.{length, set, length-set}
-use lib.IntN.{ℤ, pos}
+use lib.ListN.{length-set}
+use lib.IntN.{pos}
 use lib.Signed.{leZ, ltZ}
 use Rattle.integers.specs.Bounds.{Within}
 use Rattle.definitions.specs.Spans.{mostValue}

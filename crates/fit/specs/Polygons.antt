@@ -7,7 +7,7 @@
 --     TrimmedAt, trimmed-of       what shortening at N answers, and how it is known
 --
 -- Assumes nothing.
-use mathlib.Core.Path.{_≡_, sym, _∙_, ap, ap₂}
+use mathlib.Core.Path.{_≡_, sym, _∙_, ap}
 use mathlib.Core.Bool.{Bool}
 use Prim.Native.Nat.{ℕ, _-_, _<_, _≤_}
 use Rattle.chains.specs.Points.{through, Point as PointTerm}

@@ -1,14 +1,13 @@
 // Ranges by value, their ends as the chains hold them, and an end as a point.
 ghost use mathlib.Core.Path.{_≡_};
-ghost use Prim.Native.Nat.{suc, _<_, _≤_};
-ghost use lib.ListN.{length, getD, set};
+ghost use Prim.Native.Nat.{suc, _<_};
+ghost use lib.ListN.{getD};
 ghost use lib.IntN.{pos};
 ghost use lib.Signed.{ltZ};
 ghost use Rattle.integers.specs.Bounds.{Within};
 ghost use Rattle.definitions.specs.Spans.{mostValue};
 ghost use Rattle.trial_laws.specs.RangeLists.{rangeAt};
 ghost use Rattle.drift_laws.specs.RangeEnds.{lent};
-ghost use Rattle.drift_laws.specs.EndReads.{InSpan};
 ghost use Rattle.drift_laws.specs.ChainParts.{chain, ofChain, Long};
 ghost use Rattle.fit.specs.LinesOfEnds.{PointIs, Seen};
 ghost use Rattle.fit.specs.RangesByValue.{InList, rangeOf, highOf, lowOf, putEnd};

@@ -1,4 +1,3 @@
-pub mod Given
 pub mod Lines
 pub mod RowLaws
 pub mod Short

@@ -17,8 +17,7 @@ use Rattle.drift.specs.Columns.{Columns, rowAt}
 use Rattle.fields.specs.SpliceLaws.{splice-in}
 use Rattle.text.specs.Put.{Put}
 use Rattle.text.specs.PutLaws.{put-length, put-then}
-use Rattle.report_text.specs.Given.{linesFrom}
-use Rattle.report_text.specs.Lines.{RowsReady}
+use Rattle.report_text.specs.Lines.{linesFrom, RowsReady}
 
 pub record Told (from : ℕ) (cs : Columns) (rows : ℕ) (old : List ℕ) (j at : ℕ) (text : List ℕ) : Type 0 where
   pub some : j ≤ rows

@@ -6,7 +6,7 @@
 --     text-accepted, text-refused   the report of lists, where Segment accepted them and where it did not
 --
 -- Assumes nothing.
-use Prim.Native.Nat.{ℕ, zero, suc, _+_, _≤_, _<_}
+use Prim.Native.Nat.{ℕ, zero, suc, _+_, _≤_}
 use mathlib.Core.Path.{_≡_, refl, sym, ap, ap₂, _∙_}
 use mathlib.Core.List.{List, [], _∷_, _++_, append-nil, append-assoc}
 use native.Mathlib.Omega.{arith}
@@ -17,7 +17,7 @@ use Rattle.definitions.specs.Services.{Service}
 use Rattle.definitions.specs.Spans.{segmentRoom}
 use Rattle.definitions.specs.Ranges.{Range, Lists, rangesOf}
 use Rattle.definitions.specs.Segments.{segments}
-use Rattle.definitions.specs.Results.{Segment, segmentOf, segmentsOf, numbersOf}
+use Rattle.definitions.specs.Results.{Segment, segmentOf, segmentsOf}
 use Rattle.definitions.specs.Calls.{segmentCall}
 use Rattle.definitions.specs.Report.{refusedLine, traceLine, segmentLine, segmentLines}
 use Rattle.trial_laws.specs.CallLaws.{bind-refused}
@@ -29,8 +29,7 @@ use Rattle.drift.specs.declared.SegmentAnswer.the-variants.{Accepted, Refused}
 use Rattle.drift.specs.Columns.{Columns, columns, rowAt, lengths}
 use Rattle.drift.specs.SegmentPromise.{segmentMeaning, SegmentPromise}
 use Rattle.drift.specs.GivenColumns.{called, taken, taken-few, ordered, count-is, row-at}
-use Rattle.report_text.specs.Given.{linesFrom}
-use Rattle.report_text.specs.Lines.{answerText, listsText}
+use Rattle.report_text.specs.Lines.{linesFrom, answerText, listsText}
 
 -- ---- lists
 

@@ -1,4 +1,4 @@
-// What a segment is made of, by value, and what is computed of lines alone: lowest terms, the side of a level, the outlook.
+// What a segment is made of, by value, its row of numbers, and what is computed of lines alone: lowest terms, the side of a level, the outlook.
 pub mod lowest_terms; // lowest_terms.rt: a line in lowest terms
 mod numbers; // numbers.rt: the greatest common divisor, and the quotient rounded up
 pub mod reaching; // reaching.rt: the side of a level, when a line reaches it, and the outlook of two lines

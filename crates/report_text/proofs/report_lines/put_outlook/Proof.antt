@@ -1,9 +1,8 @@
 -- `report_text::report_lines::put_outlook` meets its contract: open, or two lines and two times, one after the other. Assumes nothing.
-use Prim.Native.Nat.{ℕ, _+_, _≤_}
+use Prim.Native.Nat.{ℕ, _+_}
 use mathlib.Core.Path.{_≡_, sym, ap, subst}
 use mathlib.Core.List.{List, _++_}
 use native.Mathlib.Omega.{arith}
-use lib.ListN.{length}
 use borrow.Author.Needs.{needs}
 use Rattle.definitions.specs.Report.{ascii, labelled, timeText, lineText, outlookText}
 use Rattle.text.specs.Put.{Put}

@@ -4,9 +4,9 @@ use mathlib.Core.Path.{_≡_, sym, ap, subst}
 use mathlib.Core.List.{List, _++_}
 use native.Mathlib.Omega.{arith}
 use borrow.Author.Needs.{needs}
-use lib.ListN.{length, length-append}
+use lib.ListN.{length}
 use Rattle.definitions.specs.Report.{ascii, decimal, timeText}
-use Rattle.text.specs.Put.{Room, Put}
+use Rattle.text.specs.Put.{Put}
 use Rattle.text.specs.PutLaws.{put-length, put-then}
 use Rattle.values.specs.Meanings.{timeOf}
 use Rattle.report_text.specs.Short.{short32}
