@@ -22,7 +22,7 @@ use Rattle.definitions.specs.Corners.{reduced, before, side, between, be
 use Rattle.definitions.specs.Splits.{cutFrom, cut, lastRun}
 use Rattle.definitions.specs.Segments.{segments, runningAfter}
 use Rattle.definitions.specs.Outlook.{someTime, allTime, Outlook, open-strip, lines, outlookOf, endTime, outlook}
-use Rattle.definitions.specs.Results.{Segment, segmentOf, segmentsOf}
+use Rattle.definitions.specs.Results.{Segment, segmentOf, segmentsOf, rowLength}
 use Rattle.definitions.specs.Answers.{Answer, refused, accepted, _>>=_, firstRow}
 use Rattle.definitions.specs.Trial.{outside, badAddress, notAbove, rangeRows, rangesRows, tooShort, differ, listRows, segmentRows, cornerRows}
 use Rattle.definitions.specs.TraceFile.{Trace, word, signed, header, takeField, addressOf, levelOf, rangeOf, addressRows, levelRows, readRanges, readFile}
@@ -43,7 +43,7 @@ pub data Result : Type 0 where
   printed : Answer (List ℕ) → Result
 
 pub run : Call → Result
-run (segment level ls) = segmented (segmentCall (replicate 11 segmentRoom) (record { level = level }) ls)
+run (segment level ls) = segmented (segmentCall (replicate rowLength segmentRoom) (record { level = level }) ls)
 run (cornersAfter k ls) = cornered (cornersCall (replicate 3 cornerRoom) k ls)
 run (read bs) = opened (readCall (replicate 3 readRoom) bs)
 run (print bs) = printed (reportCall (reportRoom ∷ []) bs)

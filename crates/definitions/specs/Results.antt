@@ -3,6 +3,7 @@
 --     Segment, segmentOf     first and last time, number of ranges and outlook of a run
 --     timeNumber             the number of a time: 4,294,967,296 stands for none
 --     Numbers, numbersOf     the row of a segment, its eleven numbers; an open segment has 0 in the last eight
+--     rowLength              how many numbers a row has, and so how many slices Segment fills
 --
 -- Assumes nothing.
 use Prim.Native.Nat.{ℕ}
@@ -71,6 +72,10 @@ pub record Numbers : Type 0 where
   pub fastD : ℤ
   pub some : ℕ
   pub all : ℕ
+
+-- how many numbers a row has
+abbrev pub rowLength : ℕ
+rowLength = 11
 
 unfoldable pub numbersOf : Segment → Numbers
 numbersOf s =

@@ -2,29 +2,31 @@
 --
 --     Columns, columns       the contents of the eleven slices: a column for each of a segment's numbers, with one entry a segment
 --     lengths                how many entries each column has
+--     zeroColumns, zero-lengths   columns of k zeros, and their lengths
 --     EachColumn rule        the rule holds of each of the eleven numbers with the column that holds it
 --     each, each-apply       a rule that always holds; a rule that follows from another, column by column
 --     rowAt, row-is          the row at a place of the columns, and how it is known
 --     Room k cs, room-tested each column has k entries or more; no length is too short, so there is room
+--     short-tested           whether a length is too short, as the slices are tested: three at a time
 --     SameLengths old new    each column is as long as before
 --     Stored k n old new     the numbers n stand at k, and all else is as before
 --     Filled ns old new      the numbers ns stand first, one after the other, and past them all is as before
 --     FirstStored c ss       the first c of the segments ss are filled in
 --     AllStored c ss         the segments ss are filled in, and there are c of them
 --
--- A column more is a line more in each list of this file; all laws elsewhere go by `EachColumn`.
+-- A column more is a line more in each list of this file; every other law goes by `EachColumn`.
 -- Assumes nothing.
 use Prim.Native.Nat.{ℕ, _≤_}
-use mathlib.Core.Path.{_≡_}
-use mathlib.Core.Bool.{false}
+use mathlib.Core.Path.{_≡_, refl, ap, _∙_}
+use mathlib.Core.Bool.{Bool, true, false, _||_}
 use mathlib.Core.List.{List, [], _∷_, _++_, map}
 use borrow.Author.Tests.{ltb-false}
 use lib.Dec.{ltb}
 use lib.IntN.{ℤ, pos}
-use lib.ListN.{length, getD, set, take, drop}
+use lib.ListN.{length, getD, set, take, drop, replicate, length-replicate}
 use Rattle.integers.specs.Booleans.{or-neither}
 use Rattle.integers.specs.Lists.{any}
-use Rattle.definitions.specs.Results.{Numbers, Segment, numbersOf}
+use Rattle.definitions.specs.Results.{Numbers, Segment, numbersOf, rowLength}
 use Rattle.definitions.specs.Trial.{tooShort}
 
 pub record Columns : Type 0 where
@@ -70,6 +72,22 @@ lengths cs =
     ∷ length (cs .somes)
     ∷ length (cs .alls)
     ∷ []
+
+-- ---- slices of k zeros, as a caller may lend them
+
+abbrev pub zeroColumns : ℕ → Columns
+zeroColumns k =
+    let counts : List ℕ = replicate k 0 in
+    let values : List ℤ = replicate k (pos 0) in
+    columns counts counts counts values values values values values values counts counts
+
+pub zero-lengths : (k : ℕ) → lengths (zeroColumns k) ≡ replicate rowLength k
+zero-lengths k =
+    let count : length (replicate {A = ℕ} k 0) ≡ k = length-replicate {A = ℕ} k 0 in
+    let value : length (replicate {A = ℤ} k (pos 0)) ≡ k = length-replicate {A = ℤ} k (pos 0) in
+    λ i. count i ∷ count i ∷ count i ∷ value i ∷ value i ∷ value i ∷ value i ∷ value i ∷ value i ∷ count i ∷ count i ∷ []
+
+-- ---- rules
 
 -- of a number and the column that holds it
 abbrev pub Rule : Type 1
@@ -185,6 +203,46 @@ room-tested {k} cs e =
       somes = h .1 .1 .1 .1 .1 .1 .1 .1 .1 .0;
       alls = h .1 .1 .1 .1 .1 .1 .1 .1 .1 .1 .0;
     }
+
+-- three tests before others
+front : (a b c d : Bool) → ((a || (b || (c || false))) || d) ≡ (a || (b || (c || d)))
+front true b c d = refl
+front false true c d = refl
+front false false true d = refl
+front false false false d = refl
+
+three-before : (k a b c : ℕ) (ns : List ℕ) → (tooShort k (a ∷ b ∷ c ∷ []) || tooShort k ns) ≡ tooShort k (a ∷ b ∷ c ∷ ns)
+unfolding tooShort any
+three-before k a b c ns = front (ltb a k) (ltb b k) (ltb c k) (tooShort k ns)
+
+two-last : (k a b : ℕ) → (ltb a k || (ltb b k || false)) ≡ tooShort k (a ∷ b ∷ [])
+unfolding tooShort any
+two-last k a b = refl
+
+in-turn : (a b c d e : Bool) → ((((a || b) || c) || d) || e) ≡ (a || (b || (c || (d || (e || false)))))
+in-turn true b c d e = refl
+in-turn false true c d e = refl
+in-turn false false true d e = refl
+in-turn false false false true e = refl
+in-turn false false false false true = refl
+in-turn false false false false false = refl
+
+-- the tests of the columns, three at a time
+pub short-tested : (k : ℕ) (cs : Columns) {s t f : Bool}
+    → s ≡ tooShort k (length (cs .firstTimes) ∷ length (cs .lastTimes) ∷ length (cs .counts) ∷ [])
+    → t ≡ tooShort k (length (cs .slowPs) ∷ length (cs .slowQs) ∷ length (cs .slowDs) ∷ [])
+    → f ≡ tooShort k (length (cs .fastPs) ∷ length (cs .fastQs) ∷ length (cs .fastDs) ∷ [])
+    → ((((s || t) || f) || ltb (length (cs .somes)) k) || ltb (length (cs .alls)) k) ≡ tooShort k (lengths cs)
+short-tested k cs {s} {t} {f} e g h =
+    let slow = length (cs .slowPs) ∷ length (cs .slowQs) ∷ length (cs .slowDs) ∷ [] in
+    let spans = length (cs .firstTimes) ∷ length (cs .lastTimes) ∷ length (cs .counts) ∷ [] in
+    let last = length (cs .somes) ∷ length (cs .alls) ∷ [] in
+    let fast-on = length (cs .fastPs) ∷ length (cs .fastQs) ∷ length (cs .fastDs) ∷ last in
+    in-turn s t f (ltb (length (cs .somes)) k) (ltb (length (cs .alls)) k)
+    ∙ ap (λ r. s || (t || (f || r))) (two-last k (length (cs .somes)) (length (cs .alls)))
+    ∙ rw (e, g, h)
+    (ap (λ r. tooShort k spans || r) (ap (λ r. tooShort k slow || r) (three-before k (length (cs .fastPs)) (length (cs .fastQs)) (length (cs .fastDs)) last) ∙ three-before k (length (cs .slowPs)) (length (cs .slowQs)) (length (cs .slowDs)) fast-on)
+    ∙ three-before k (length (cs .firstTimes)) (length (cs .lastTimes)) (length (cs .counts)) (length (cs .slowPs) ∷ length (cs .slowQs) ∷ length (cs .slowDs) ∷ fast-on))
 
 -- ---- what a call leaves
 

@@ -1,12 +1,13 @@
 // The segments of a trace, their outlooks, and the corners of the fit. Only the calls are open to outsiders.
 mod filling; // filling.rt: every segment into the lent slices
-mod segment_trial; // segment_trial.rt: what Segment tries besides its lists
 
 ghost use Rattle.drift.specs.Columns.{columns};
 ghost use Rattle.drift.specs.SegmentPromise.{SegmentPromise};
 ghost use Rattle.drift.specs.CornersPromise.{CornersPromise};
 use definitions::limits::CORNER_ROOM;
 use definitions::limits::MOST_RANGES;
+use definitions::limits::SEGMENT_ROOM;
+use trial::three_short;
 
 // The number of segments, or the number of a refusal.
 pub enum SegmentAnswer {
@@ -34,19 +35,15 @@ pub fn segment(
 ) -> SegmentAnswer
     ensures { λ r. ⌜ SegmentPromise (record { level = level }) (record { times = now (times .entry); lows = now (lows .entry); highs = now (highs .entry) }) (columns (now («first_times» .entry)) (now («last_times» .entry)) (now (counts .entry)) (now («slow_ps» .entry)) (now («slow_qs» .entry)) (now («slow_ds» .entry)) (now («fast_ps» .entry)) (now («fast_qs» .entry)) (now («fast_ds» .entry)) (now (somes .entry)) (now (alls .entry))) (columns (now («first_times» .exit)) (now («last_times» .exit)) (now (counts .exit)) (now («slow_ps» .exit)) (now («slow_qs» .exit)) (now («slow_ds» .exit)) (now («fast_ps» .exit)) (now («fast_qs» .exit)) (now («fast_ds» .exit)) (now (somes .exit)) (now (alls .exit))) r ⌝ }
 {
-    let short = segment_trial::too_short(
+    let spans = three_short(
+        SEGMENT_ROOM,
         first_times.len(),
         last_times.len(),
         counts.len(),
-        slow_ps.len(),
-        slow_qs.len(),
-        slow_ds.len(),
-        fast_ps.len(),
-        fast_qs.len(),
-        fast_ds.len(),
-        somes.len(),
-        alls.len(),
     );
+    let slow = three_short(SEGMENT_ROOM, slow_ps.len(), slow_qs.len(), slow_ds.len());
+    let fast = three_short(SEGMENT_ROOM, fast_ps.len(), fast_qs.len(), fast_ds.len());
+    let short = spans | slow | fast | (somes.len() < SEGMENT_ROOM) | (alls.len() < SEGMENT_ROOM);
     let outside = trial::value_outside(level);
     let number = trial::try_lists(short, outside, times, lows, highs);
     if number != 0 {
@@ -92,7 +89,7 @@ pub fn corners(
 ) -> CornersAnswer
     ensures { λ r. ⌜ CornersPromise k (record { times = now (times .entry); lows = now (lows .entry); highs = now (highs .entry) }) (now (ps .entry)) (now (qs .entry)) (now (ds .entry)) (now (ps .exit)) (now (qs .exit)) (now (ds .exit)) r ⌝ }
 {
-    let short = trial::three_short(CORNER_ROOM, ps.len(), qs.len(), ds.len());
+    let short = three_short(CORNER_ROOM, ps.len(), qs.len(), ds.len());
     let number = trial::try_lists(short, false, times, lows, highs);
     if number != 0 {
         return CornersAnswer::Refused(number);

@@ -13,7 +13,7 @@ use lib.ListN.{length, replicate}
 use Rattle.definitions.specs.Spans.{segmentRoom}
 use Rattle.definitions.specs.Ranges.{Lists}
 use Rattle.definitions.specs.Lines.{Line}
-use Rattle.definitions.specs.Results.{Segment}
+use Rattle.definitions.specs.Results.{Segment, rowLength}
 use Rattle.definitions.specs.Answers.{Answer, refused, accepted}
 use Rattle.definitions.specs.Calls.{segmentCall}
 use Rattle.definitions.specs.Report.{labelled, signedDecimal, refusedLine, traceLine, segmentLine, segmentLines}
@@ -38,4 +38,4 @@ answerText address level ranges (refused n) = refusedLine n
 answerText address level ranges (accepted ss) = traceLine address level ranges (length ss) ++ segmentLines 1 ss
 
 unfoldable pub listsText : ℕ → ℤ → Lists → List ℕ
-listsText address level ls = answerText address level (length (ls .times)) (segmentCall (replicate 11 segmentRoom) (record { level = level }) ls)
+listsText address level ls = answerText address level (length (ls .times)) (segmentCall (replicate rowLength segmentRoom) (record { level = level }) ls)

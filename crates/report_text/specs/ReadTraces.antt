@@ -18,7 +18,7 @@ use Rattle.integers.specs.Lists.{any}
 use Rattle.definitions.specs.Spans.{mostRanges, readRoom, segmentRoom}
 use Rattle.definitions.specs.Times.{none}
 use Rattle.definitions.specs.Ranges.{Range, rangesOf}
-use Rattle.definitions.specs.Results.{segmentsOf}
+use Rattle.definitions.specs.Results.{segmentsOf, rowLength}
 use Rattle.definitions.specs.Answers.{refused, accepted, _>>=_, firstRow}
 use Rattle.definitions.specs.Trial.{rangesRows, tooShort, listRows, segmentRows}
 use Rattle.definitions.specs.TraceFile.{Trace, readFile}
@@ -35,14 +35,14 @@ times-long : (rs : List Range) → length (listsOf rs .times) ≡ length rs
 unfolding listsOf
 times-long rs = length-map rs (λ r. r .time)
 
-lists-taken : (t : Trace) → TraceTried t → segmentCall (replicate 11 segmentRoom) (record { level = t .level }) (listsOf (t .ranges)) ≡ accepted (segmentsOf (record { level = t .level }) (t .ranges))
+lists-taken : (t : Trace) → TraceTried t → segmentCall (replicate rowLength segmentRoom) (record { level = t .level }) (listsOf (t .ranges)) ≡ accepted (segmentsOf (record { level = t .level }) (t .ranges))
 unfolding segmentCall segmentRows listRows tooShort any _>>=_
 lists-taken t h =
     let rs = t .ranges in
     let back = ranges-of-lists rs in
     let few = le-ltb mostRanges (length (listsOf rs .times)) (omega (arith, times-long rs, h .count-in)) in
     let rows = subst (λ l. NoneHolds (rangesRows none l)) (sym back) (h .ranges-in) in
-    let passed = first-row-accepted (segmentRows (replicate 11 segmentRoom) (record { level = t .level }) (listsOf rs)) .1 (refl, (lists-alike rs, (few, (h .level-in, rows)))) in
+    let passed = first-row-accepted (segmentRows (replicate rowLength segmentRoom) (record { level = t .level }) (listsOf rs)) .1 (refl, (lists-alike rs, (few, (h .level-in, rows)))) in
     ap (λ a. a >>= λ ok. accepted (segmentsOf (record { level = t .level }) (rangesOf (listsOf rs)))) passed ∙ ap (λ l. accepted (segmentsOf (record { level = t .level }) l)) back
 
 pub report-of-lists : (bs : List ℕ) (t : Trace) → readFile bs ≡ accepted t → listsText (t .address) (t .level) (listsOf (t .ranges)) ≡ report bs

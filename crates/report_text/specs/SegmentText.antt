@@ -2,7 +2,6 @@
 --
 --     lines-given            the rows in the slices, told one after the other, are the lines of the segments
 --     few-given              there are at most as many rows as a slice has room for
---     zeroColumns, zero-lengths     the slices before the call
 --     text-accepted, text-refused   the report of lists, where Segment accepted them and where it did not
 --
 -- Assumes nothing.
@@ -10,14 +9,13 @@ use Prim.Native.Nat.{ℕ, zero, suc, _+_, _≤_}
 use mathlib.Core.Path.{_≡_, refl, sym, ap, ap₂, _∙_}
 use mathlib.Core.List.{List, [], _∷_, _++_, append-nil, append-assoc}
 use native.Mathlib.Omega.{arith}
-use lib.IntN.{ℤ, pos}
-use lib.ListN.{length, getD, take, replicate, length-replicate, length-map}
+use lib.ListN.{length, getD, take, replicate, length-map}
 use lib.Seq.{take-suc, take-all, length-take-le}
 use Rattle.definitions.specs.Services.{Service}
 use Rattle.definitions.specs.Spans.{segmentRoom}
 use Rattle.definitions.specs.Ranges.{Range, Lists, rangesOf}
 use Rattle.definitions.specs.Segments.{segments}
-use Rattle.definitions.specs.Results.{Segment, segmentOf, segmentsOf}
+use Rattle.definitions.specs.Results.{Segment, segmentOf, segmentsOf, rowLength}
 use Rattle.definitions.specs.Calls.{segmentCall}
 use Rattle.definitions.specs.Report.{refusedLine, traceLine, segmentLine, segmentLines}
 use Rattle.trial_laws.specs.CallLaws.{bind-refused}
@@ -26,7 +24,7 @@ use Rattle.lines.specs.Theorems.{segments-room}
 use Rattle.values.specs.Rows.{segmentFrom}
 use Rattle.values.specs.RowLaws.{rows-back}
 use Rattle.drift.specs.declared.SegmentAnswer.the-variants.{Accepted, Refused}
-use Rattle.drift.specs.Columns.{Columns, columns, rowAt, lengths}
+use Rattle.drift.specs.Columns.{Columns, rowAt, lengths}
 use Rattle.drift.specs.SegmentPromise.{segmentMeaning, SegmentPromise}
 use Rattle.drift.specs.GivenColumns.{called, taken, taken-few, ordered, count-is, row-at}
 use Rattle.report_text.specs.Lines.{linesFrom, answerText, listsText}
@@ -40,20 +38,6 @@ lines-snoc place (t ∷ ss) s =
     ap (λ l. segmentLine place t ++ l) (lines-snoc (suc place) ss s)
     ∙ sym (append-assoc (segmentLine place t) (segmentLines (suc place) ss) (segmentLine (suc place + length ss) s))
     ∙ ap (λ k. segmentLine place t ++ segmentLines (suc place) ss ++ segmentLine k s) (omega arith)
-
--- ---- slices of zeros, as the report lends them
-
-abbrev pub zeroColumns : Columns
-zeroColumns =
-    let counts : List ℕ = replicate segmentRoom 0 in
-    let values : List ℤ = replicate segmentRoom (pos 0) in
-    columns counts counts counts values values values values values values counts counts
-
-pub zero-lengths : lengths zeroColumns ≡ replicate 11 segmentRoom
-zero-lengths =
-    let count : length (replicate {A = ℕ} segmentRoom 0) ≡ segmentRoom = length-replicate {A = ℕ} segmentRoom 0 in
-    let value : length (replicate {A = ℤ} segmentRoom (pos 0)) ≡ segmentRoom = length-replicate {A = ℤ} segmentRoom (pos 0) in
-    λ i. count i ∷ count i ∷ count i ∷ value i ∷ value i ∷ value i ∷ value i ∷ value i ∷ value i ∷ count i ∷ count i ∷ []
 
 -- ---- where Segment accepted
 
@@ -85,14 +69,14 @@ module _ {v : Service} {ls : Lists} {old new : Columns} {n : ℕ} (promise : Seg
   pub lines-given : linesFrom new n ≡ segmentLines 1 ss
   lines-given = lines-so-far n (omega arith) ∙ ap (segmentLines 1) (take-all n ss (omega (arith, count-is promise)))
 
-  pub text-accepted : (address : ℕ) → lengths old ≡ replicate 11 segmentRoom → listsText address (v .level) ls ≡ traceLine address (v .level) (length (ls .times)) n ++ linesFrom new n
+  pub text-accepted : (address : ℕ) → lengths old ≡ replicate rowLength segmentRoom → listsText address (v .level) ls ≡ traceLine address (v .level) (length (ls .times)) n ++ linesFrom new n
   unfolding listsText answerText
   text-accepted address room =
       ap (λ r. answerText address (v .level) (length (ls .times)) (segmentCall r v ls)) (sym room)
       ∙ ap (answerText address (v .level) (length (ls .times))) (called promise)
       ∙ ap₂ (λ m l. traceLine address (v .level) (length (ls .times)) m ++ l) (sym (count-is promise)) (sym lines-given)
 
-pub text-refused : {v : Service} {ls : Lists} {old new : Columns} {e : ℕ} → SegmentPromise v ls old new (Refused e) → (address : ℕ) → lengths old ≡ replicate 11 segmentRoom
+pub text-refused : {v : Service} {ls : Lists} {old new : Columns} {e : ℕ} → SegmentPromise v ls old new (Refused e) → (address : ℕ) → lengths old ≡ replicate rowLength segmentRoom
     → listsText address (v .level) ls ≡ refusedLine e
 unfolding listsText answerText segmentMeaning
 text-refused {v} {ls} {old} {new} {e} promise address room =

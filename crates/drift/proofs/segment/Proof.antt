@@ -1,9 +1,10 @@
 -- `drift::segment` meets its contract: the trial answers with the number of the first row that holds, and where none does the slices are filled. Assumes nothing.
 use Prim.Native.Nat.{ℕ, _≤_, _<_}
 use mathlib.Core.Path.{_≡_, sym, ap, ap₂, _∙_, subst}
-use mathlib.Core.Bool.{Bool}
+use mathlib.Core.Bool.{Bool, _||_}
 use mathlib.Core.List.{List}
 use native.Mathlib.Omega.{arith}
+use lib.Dec.{ltb}
 use lib.IntN.{ℤ}
 use lib.ListN.{length, length-map}
 use mir.Syntax.{w32}
@@ -21,7 +22,7 @@ use Rattle.trial_laws.specs.RangeLists.{ranges-length}
 use Rattle.lines.specs.Theorems.{segments-room}
 use Rattle.definitions.specs.Segments.{segments}
 use Rattle.trial_laws.specs.Accepted.{AcceptedLists, trial-zero}
-use Rattle.drift.specs.Columns.{Columns, columns, lengths, AllStored, room-tested}
+use Rattle.drift.specs.Columns.{Columns, columns, lengths, AllStored, room-tested, short-tested}
 use Rattle.drift.specs.ColumnLaws.{room-less}
 use Rattle.drift.specs.SegmentPromiseLaws.{promise-refused, promise-accepted}
 use Rattle.drift.specs.Filling.{FillReady}
@@ -46,8 +47,14 @@ old c = columns (c .args .first-times .now) (c .args .last-times .now) (c .args 
 level-read : (c : tie.Start) → toZ w32 (ofZ w32 (level c)) ≡ level c
 level-read c = toZ-ofZ (c .fits .level)
 
-too-short-requires : tie.Need-too-short-requires
-too-short-requires c κs = tt
+three-short-requires : tie.Need-three-short-requires
+three-short-requires c κs = tt
+
+three-short-requires-2 : tie.Need-three-short-requires-2
+three-short-requires-2 c κs = tt
+
+three-short-requires-3 : tie.Need-three-short-requires-3
+three-short-requires-3 c κs = tt
 
 value-outside-requires : tie.Need-value-outside-requires
 value-outside-requires c κs = tt
@@ -70,19 +77,26 @@ tried ns v level′ ls e f g = segment-trial ns v ls ∙ ap₂ (λ short out. fi
 
 module _ (c : tie.After-try-lists) where
   abbrev entry : tie.Start
-  entry = c .before .before .before .before .before .before .before .before .before
+  entry = c .before .before .before .before .before .before .before .before .before .before .before
+
+  -- whether a slice is too short, as it is tested
+  abbrev short : Bool
+  short = (((c .before .before .before .before .three-short .result || c .before .before .before .three-short2 .result) || c .before .before .three-short3 .result) || ltb (length (old entry .somes)) segmentRoom) || ltb (length (old entry .alls)) segmentRoom
+
+  short-is : short ≡ tooShort segmentRoom (lengths (old entry))
+  short-is = short-tested segmentRoom (old entry) (c .before .before .before .before .three-short .ensures) (c .before .before .before .three-short2 .ensures) (c .before .before .three-short3 .ensures)
 
   abbrev number : ℕ
   number = c .try-lists .result
 
   abbrev rows : List Row
-  rows = trialRows (c .before .before .too-short .result) (c .before .value-outside .result) (lists entry)
+  rows = trialRows short (c .before .value-outside .result) (lists entry)
 
   number-is : refusal (firstRow rows) ≡ number
   number-is = sym (c .try-lists .ensures)
 
   rows-are : firstRow (segmentRows (lengths (old entry)) (service entry) (lists entry)) ≡ firstRow rows
-  rows-are = tried (lengths (old entry)) (service entry) (toZ w32 (ofZ w32 (level entry))) (lists entry) (c .before .before .too-short .ensures) (c .before .value-outside .ensures) (level-read entry)
+  rows-are = tried (lengths (old entry)) (service entry) (toZ w32 (ofZ w32 (level entry))) (lists entry) short-is (c .before .value-outside .ensures) (level-read entry)
 
   one-holds : 0 < number → firstRow (segmentRows (lengths (old entry)) (service entry) (lists entry)) ≡ refused number
   one-holds h = rows-are ∙ refusal-above (firstRow rows) number number-is h
@@ -95,7 +109,7 @@ module _ (c : tie.After-try-lists) where
       let (roomy, inside, lists-accepted, most) = trial-zero _ _ (lists entry) .0 (number-is ∙ e) in
       record {
         tried = record { level-inside = ap outside (sym (level-read entry)) ∙ sym (c .before .value-outside .ensures) ∙ inside; lists-accepted = lists-accepted; few = most };
-        room = room-less (few (service entry) (lists entry) lists-accepted most) (room-tested (old entry) (sym (c .before .before .too-short .ensures) ∙ roomy));
+        room = room-less (few (service entry) (lists entry) lists-accepted most) (room-tested (old entry) (sym short-is ∙ roomy));
       }
 
 returns : tie.Need-returns
@@ -160,7 +174,9 @@ pub segment-spec : {M : Type 1} → statement M
 segment-spec =
     tie.close
     (tie.spec
-    too-short-requires
+    three-short-requires
+    three-short-requires-2
+    three-short-requires-3
     value-outside-requires
     try-lists-requires
     returns

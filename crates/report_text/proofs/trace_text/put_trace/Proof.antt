@@ -7,12 +7,13 @@ use borrow.Author.Needs.{needs}
 use Rattle.definitions.specs.Ranges.{Lists}
 use Rattle.definitions.specs.Report.{traceLine}
 use Rattle.drift.specs.declared.SegmentAnswer.the-variants.{Accepted, Refused}
-use Rattle.drift.specs.Columns.{Columns, columns}
+use Rattle.definitions.specs.Spans.{segmentRoom}
+use Rattle.drift.specs.Columns.{Columns, columns, zeroColumns, zero-lengths}
 use Rattle.drift.specs.SegmentPromise.{SegmentPromise}
 use Rattle.text.specs.Put.{Put}
 use Rattle.text.specs.PutLaws.{put-length, put-then}
 use Rattle.drift.specs.GivenColumns.{rows-room}
-use Rattle.report_text.specs.SegmentText.{zeroColumns, zero-lengths, few-given, text-accepted, text-refused}
+use Rattle.report_text.specs.SegmentText.{few-given, text-accepted, text-refused}
 use Rattle.report_text.proofs.trace_text.put_trace.Statement.{statement}
 use Rattle.report_text.proofs.trace_text.put_trace.Tie as tie
 
@@ -25,14 +26,14 @@ lists s = record { times = s .args .times .now; lows = s .args .lows .now; highs
 abbrev new : tie.After-segment → Columns
 new c = let l = c .segment .last in columns (l .1 .1 .1 .1 .0) (l .1 .1 .1 .1 .1 .0) (l .1 .1 .1 .1 .1 .1 .0) (l .1 .1 .1 .1 .1 .1 .1 .0) (l .1 .1 .1 .1 .1 .1 .1 .1 .0) (l .1 .1 .1 .1 .1 .1 .1 .1 .1 .0) (l .1 .1 .1 .1 .1 .1 .1 .1 .1 .1 .0) (l .1 .1 .1 .1 .1 .1 .1 .1 .1 .1 .1 .0) (l .1 .1 .1 .1 .1 .1 .1 .1 .1 .1 .1 .1 .0) (l .1 .1 .1 .1 .1 .1 .1 .1 .1 .1 .1 .1 .1 .0) (l .1 .1 .1 .1 .1 .1 .1 .1 .1 .1 .1 .1 .1 .1 .0)
 
-promise : (c : tie.After-segment) → let s = c .before .before .before .before .before .before .before .before .before .before .before .before .before .before in SegmentPromise (record { level = s .args .level }) (lists s) zeroColumns (new c) (c .segment .result)
-promise c = let s = c .before .before .before .before .before .before .before .before .before .before .before .before .before .before in subst (λ z. SegmentPromise (record { level = z }) (lists s) zeroColumns (new c) (c .segment .result)) (toZ-ofZ (s .fits .level)) (c .segment .ensures)
+promise : (c : tie.After-segment) → let s = c .before .before .before .before .before .before .before .before .before .before .before .before .before .before in SegmentPromise (record { level = s .args .level }) (lists s) (zeroColumns segmentRoom) (new c) (c .segment .result)
+promise c = let s = c .before .before .before .before .before .before .before .before .before .before .before .before .before .before in subst (λ z. SegmentPromise (record { level = z }) (lists s) (zeroColumns segmentRoom) (new c) (c .segment .result)) (toZ-ofZ (s .fits .level)) (c .segment .ensures)
 
-refuses : (c : tie.After-answer) → let segment = c .before .before .before .before .before .before .before .before .before .before .before .before .before in let s = segment .before .before .before .before .before .before .before .before .before .before .before .before .before .before in SegmentPromise (record { level = s .args .level }) (lists s) zeroColumns (new segment) (Refused (c .answer .given .0 .0))
-refuses c = let segment = c .before .before .before .before .before .before .before .before .before .before .before .before .before in let s = segment .before .before .before .before .before .before .before .before .before .before .before .before .before .before in subst (SegmentPromise (record { level = s .args .level }) (lists s) zeroColumns (new segment)) (c .answer .given .1) (promise segment)
+refuses : (c : tie.After-answer) → let segment = c .before .before .before .before .before .before .before .before .before .before .before .before .before in let s = segment .before .before .before .before .before .before .before .before .before .before .before .before .before .before in SegmentPromise (record { level = s .args .level }) (lists s) (zeroColumns segmentRoom) (new segment) (Refused (c .answer .given .0 .0))
+refuses c = let segment = c .before .before .before .before .before .before .before .before .before .before .before .before .before in let s = segment .before .before .before .before .before .before .before .before .before .before .before .before .before .before in subst (SegmentPromise (record { level = s .args .level }) (lists s) (zeroColumns segmentRoom) (new segment)) (c .answer .given .1) (promise segment)
 
-accepts : (c : tie.After-answer2) → let segment = c .before .before .before .before .before .before .before .before .before .before .before .before .before in let s = segment .before .before .before .before .before .before .before .before .before .before .before .before .before .before in SegmentPromise (record { level = s .args .level }) (lists s) zeroColumns (new segment) (Accepted (c .answer2 .given .0 .0))
-accepts c = let segment = c .before .before .before .before .before .before .before .before .before .before .before .before .before in let s = segment .before .before .before .before .before .before .before .before .before .before .before .before .before .before in subst (SegmentPromise (record { level = s .args .level }) (lists s) zeroColumns (new segment)) (c .answer2 .given .1) (promise segment)
+accepts : (c : tie.After-answer2) → let segment = c .before .before .before .before .before .before .before .before .before .before .before .before .before in let s = segment .before .before .before .before .before .before .before .before .before .before .before .before .before .before in SegmentPromise (record { level = s .args .level }) (lists s) (zeroColumns segmentRoom) (new segment) (Accepted (c .answer2 .given .0 .0))
+accepts c = let segment = c .before .before .before .before .before .before .before .before .before .before .before .before .before in let s = segment .before .before .before .before .before .before .before .before .before .before .before .before .before .before in subst (SegmentPromise (record { level = s .args .level }) (lists s) (zeroColumns segmentRoom) (new segment)) (c .answer2 .given .1) (promise segment)
 
 -- the heading, of the level itself
 heading-put : (c : tie.After-put-heading) → let s = c .before .before .before .before .before .before .before .before .before .before .before .before .before .before .before .before .before .before .before .before .before .before .before .before .before .before .before .before .before .before in Put 0 (traceLine (s .args .address) (s .args .level) (length (s .args .times .now)) (c .before .before .before .answer2 .given .0 .0)) (s .args .text .now) (c .put-heading .result) (c .put-heading .last .0)
@@ -141,7 +142,7 @@ returns c =
     let told = c .before .before in
     let answer = told .before .before .before in
     let s = told .before .before .before .before .before .before .before .before .before .before .before .before .before .before .before .before .before .before .before .before .before .before .before .before .before .before .before .before .before .before in
-    subst (λ bs. Put 0 bs (s .args .text .now) (told .put-refused .result) (told .put-refused .last .0)) (sym (text-refused (refuses answer) (s .args .address) zero-lengths)) (told .put-refused .ensures)
+    subst (λ bs. Put 0 bs (s .args .text .now) (told .put-refused .result) (told .put-refused .last .0)) (sym (text-refused (refuses answer) (s .args .address) (zero-lengths segmentRoom))) (told .put-refused .ensures)
 
 same-length-2 : tie.Need-same-length-2
 same-length-2 c = c .before .before .put-segments .kept .0 ∙ c .before .before .before .before .before .before .before .before .before .before .before .before .before .before .before .before .before .put-heading .kept .0
@@ -151,7 +152,7 @@ returns-2 c =
     let told = c .before .before in
     let answer = told .before .before .before .before .before .before .before .before .before .before .before .before .before .before .before .before .before .before in
     let s = told .before .before .before .before .before .before .before .before .before .before .before .before .before .before .before .before .before .before .before .before .before .before .before .before .before .before .before .before .before .before .before .before .before .before .before .before .before .before .before .before .before .before .before .before .before in
-    subst (λ bs. Put 0 bs (s .args .text .now) (told .put-segments .result) (told .put-segments .last .0)) (sym (text-accepted (accepts answer) (s .args .address) zero-lengths)) (put-then (heading-put (told .before .before .before .before .before .before .before .before .before .before .before .before .before .before .before)) (told .put-segments .ensures))
+    subst (λ bs. Put 0 bs (s .args .text .now) (told .put-segments .result) (told .put-segments .last .0)) (sym (text-accepted (accepts answer) (s .args .address) (zero-lengths segmentRoom))) (put-then (heading-put (told .before .before .before .before .before .before .before .before .before .before .before .before .before .before .before)) (told .put-segments .ensures))
 
 pub put-trace-spec : {M : Type 1} → statement M
 put-trace-spec =
