@@ -2,17 +2,19 @@
 --
 --     givenLines n ps qs ds      the lines whose p, q and d are the first n entries of three slices
 -- Where it gave the number n of corners
+--     given-segment              the segment running after k ranges is the front, up to range k, of the whole trace's segment that has range k
 --     given-corners              these lines are the corners of the segment running after k ranges, in the scope's list
 --     given-count                and at most 2k
 --     given-fit, given-mean      each fits that segment, and every line that fits it is a weighted mean of them
 --     given-exact                a line is among them exactly if it is a corner of the fit, in lowest terms
 --     given-ordered, given-once  they are in corner order, none twice
+--     given-by-diagonal          above the diagonal is a greater intercept than the diagonal has at the same slope, below it a smaller one
 --     given-past                 entries past the number hold their old contents
 -- Where it gave open
---     open-one                   that segment has one range
+--     open-segment               the segment running after k ranges is again that front
+--     open-one, open-none        it has one range, and its fit no corner
 --     open-kept                  the slices hold their old contents
--- Where it gave the number e
---     refused-first              e is the number of the first row that holds
+-- Where it gave the number of a refusal; `Refusals` says when
 --     refused-kept               the slices hold their old contents
 --
 -- Assumes nothing.
@@ -38,13 +40,15 @@ use Rattle.definitions.specs.Answers.{Answer, refused, accepted, filled}
 use Rattle.definitions.specs.Trial.{tooShort, cornerRows}
 use Rattle.definitions.specs.Calls.{Fit, open-strip, bounded, fitOf, cornersCall}
 use Rattle.trial_laws.specs.RangeLists.{ranges-length}
-use Rattle.trial_laws.specs.Rows.{NoneHolds, FirstAt, first-row-accepted}
-use Rattle.trial_laws.specs.CallLaws.{call-accepted, call-refused, bind-accepted, bind-refused}
+use Rattle.trial_laws.specs.Rows.{NoneHolds, first-row-accepted}
+use Rattle.trial_laws.specs.CallLaws.{call-accepted, bind-accepted, bind-refused}
 use Rattle.trial_laws.specs.Accepted.{AcceptedLists, corner-accepted}
-use Rattle.splits.specs.Runs.{flatten-snoc}
+use Rattle.splits.specs.Runs.{FrontOf, flatten-snoc}
 use Rattle.splits.specs.Cutting.{cut-whole, cut-last}
 use Rattle.splits.specs.OrderedRanges.{ordered-left, ordered-right}
-use Rattle.lines.specs.Theorems.{corners-exact, corners-ordered, corners-once, corners-count, corners-fit, corners-mean, running-has-line}
+use Rattle.splits.specs.Segments.{running-front}
+use Rattle.lines.specs.Theorems.{corners-exact, corners-ordered, corners-once, corners-count, corners-fit, corners-mean, corners-by-diagonal, one-range-no-corner, running-has-line}
+use Rattle.lines.specs.Diagonal.{ByDiagonal}
 use Rattle.drift.specs.declared.CornersAnswer.{CornersAnswer}
 use Rattle.drift.specs.declared.CornersAnswer.the-variants.{Corners, Open, Refused}
 use Rattle.drift.specs.CornersPromise.{unbounded, corner-count, countOf, cornersIn, cornersMeaning, threeLengths, CornersPromise}
@@ -83,6 +87,9 @@ module _ (ns : List ℕ) (k : ℕ) (ls : Lists) (fit : Fit) (e : cornersCall ns 
 
   within : k ≤ length (rangesOf ls)
   within = omega (arith, proper .2, ranges-length ls (proper .3 .same))
+
+  segment-front : FrontOf k (segments (rangesOf ls)) running
+  segment-front = running-front k (rangesOf ls) (omega (arith, proper .1)) within
 
   -- the segment running then ends the first k ranges
   ends : flatten (dropLast (segments (take k (rangesOf ls)))) ++ running ≡ take k (rangesOf ls)
@@ -151,6 +158,9 @@ module _ {k : ℕ} {ls : Lists} {ps qs ds ps′ qs′ ds′ : List ℤ} {n : ℕ
   unfolding cornersMeaning
   made = bind-accepted (cornersCall ns k ls) (λ fit. accepted (countOf fit)) (corner-count n) (sym (promise .answer-is))
 
+  pub given-segment : FrontOf k (segments (rangesOf ls)) segment
+  given-segment = segment-front ns k ls (made .0) (made .1)
+
   listed : (ks : List Line) × (made .0 ≡ bounded ks) × (n ≡ length ks)
   listed = counted (made .0) n (made .2)
 
@@ -206,6 +216,9 @@ module _ {k : ℕ} {ls : Lists} {ps qs ds ps′ qs′ ds′ : List ℤ} {n : ℕ
   pub given-ordered : InCornerOrder lines
   given-ordered = about (λ rs ks. InCornerOrder ks) (λ r s ws o h. corners-ordered r s ws o h)
 
+  pub given-by-diagonal : ByDiagonal lines
+  given-by-diagonal = about (λ rs ks. ByDiagonal ks) (λ r s ws o h. corners-by-diagonal r s ws o h)
+
   pub given-once : List·Nodup lines
   given-once = about (λ rs ks. List·Nodup ks) (λ r s ws o h. corners-once r s ws o h)
 
@@ -224,6 +237,11 @@ slices-kept {ps = ps} {qs} {ds} promise e same = (
 
 -- ---- open
 
+one-none : (rs : List Range) → length rs ≡ 1 → (l : Line) → Corner rs l → ⊥
+one-none [] e = absurd (omega (arith, e))
+one-none (r ∷ []) e = one-range-no-corner r
+one-none (r ∷ s ∷ rs) e = absurd (omega (arith, e))
+
 module _ {k : ℕ} {ls : Lists} {ps qs ds ps′ qs′ ds′ : List ℤ} (promise : CornersPromise k ls ps qs ds ps′ qs′ ds′ Open) where
   found-open : cornersCall (threeLengths ps qs ds) k ls ≡ accepted open-strip
   unfolding cornersMeaning
@@ -231,10 +249,16 @@ module _ {k : ℕ} {ls : Lists} {ps qs ds ps′ qs′ ds′ : List ℤ} (promise
       let b = bind-accepted (cornersCall (threeLengths ps qs ds) k ls) (λ fit. accepted (countOf fit)) unbounded (sym (promise .answer-is)) in
       b .1 ∙ ap accepted (uncounted (b .0) (b .2))
 
+  pub open-segment : FrontOf k (segments (rangesOf ls)) (runningAfter k (rangesOf ls))
+  open-segment = segment-front (threeLengths ps qs ds) k ls open-strip found-open
+
   pub open-one : length (runningAfter k (rangesOf ls)) ≡ 1
   open-one =
       let lengths = threeLengths ps qs ds in
       fit-one (runningAfter k (rangesOf ls)) (running-good lengths k ls open-strip found-open) (answered lengths k ls open-strip found-open .1)
+
+  pub open-none : (l : Line) → Corner (runningAfter k (rangesOf ls)) l → ⊥
+  open-none = one-none (runningAfter k (rangesOf ls)) open-one
 
   pub open-kept : (ps′ ≡ ps) × (qs′ ≡ qs) × (ds′ ≡ ds)
   unfolding filled cornersIn
@@ -246,10 +270,6 @@ module _ {k : ℕ} {ls : Lists} {ps qs ds ps′ qs′ ds′ : List ℤ} {e : ℕ
   found-refused : cornersCall (threeLengths ps qs ds) k ls ≡ refused e
   unfolding cornersMeaning
   found-refused = bind-refused (cornersCall (threeLengths ps qs ds) k ls) countOf e (sym (promise .answer-is))
-
-  pub refused-first : FirstAt e (cornerRows (threeLengths ps qs ds) k ls)
-  unfolding cornersCall
-  refused-first = call-refused (cornerRows (threeLengths ps qs ds) k ls) (fitOf (runningAfter k (rangesOf ls))) e .0 found-refused
 
   pub refused-kept : (ps′ ≡ ps) × (qs′ ≡ qs) × (ds′ ≡ ds)
   unfolding filled

@@ -7,7 +7,7 @@
 --     given-times                      each given first and last time is that of its run's first and last range
 --     given-ahead                      for every split and every j up to both counts, the j-th last time given is at or after the last time in the split's j-th run
 --     given-fewest                     every split has at least as many runs as the number of segments given
---     given-close                      wherever a further range closes a segment, that segment holds two ranges such that no line fits those two and the further one
+--     given-close                      wherever a further range closes a segment, that segment holds two ranges, at different times, such that no line fits those two and the further one
 --
 -- Runs are counted from 0.
 -- Assumes nothing.

@@ -9,3 +9,5 @@ pub mod Filling
 pub mod NextSegments
 pub mod GivenColumns
 pub mod Demand3
+pub mod Refusals
+pub mod OutlookTheorems

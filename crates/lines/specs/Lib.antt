@@ -2,8 +2,10 @@ pub mod LineOrder
 pub mod MeanLaws
 pub mod Levels
 pub mod HasLine
+pub mod OneRange
 pub mod FittingLines
 pub mod CornerOrder
+pub mod Diagonal
 pub mod CornerFacts
 pub mod CornerList
 pub mod OutlookTimes

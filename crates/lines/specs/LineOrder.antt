@@ -2,6 +2,7 @@
 --
 --     Positive l                             d is above 0
 --     same-refl, same-sym, same-trans        SameLine is an equivalence of lines with d above 0
+--     slope-trans                            SlopeBelow is transitive among them
 --     Proper l                               d is above 0, and p, q and d are in lowest terms
 --     proper-equal                           lines in lowest terms that are the same line are equal
 --     reduced-proper, reduced-same           `reduced l` is in lowest terms, and the same line as l
@@ -12,7 +13,7 @@
 --     line-order                             `before` is a strict order of the lines in lowest terms, as `Sorting` of integers wants it
 --     equal-below, below-equal               of fractions a/d, b/e, c/f: the first is below the third where it is equal to or below the second, which is below or equal to the third
 --
---     SameOrder x y x′ y′                    x is to y as x′ is to y′: below, equal or above; order-≤, order-<, order-flip
+--     SameOrder x y x′ y′                    x is to y as x′ is to y′: below, equal or above; order-≤, order-<, order-flip, order-sym
 --     Restates l m                           l and m are the same line, both with d above 0; restates-refl, restates-sym, reduced-restates: a line and its lowest terms
 --     slope-same, reading-same, side-same    slope against slope, value against level, side of the diagonal: alike for lines that restate each other
 --     SlopeBelow-same, Reaches-same, FitsRange-same, InFit-same   so each of these passes from a line to one that restates it
@@ -75,6 +76,9 @@ same-trans {j} {k} {l} h s t =
       intercept = equal-trans (j .q) (j .d) (k .q) (k .d) (l .q) (l .d) h (s .intercept) (t .intercept);
     }
 
+pub slope-trans : (j k l : Line) → Positive j → Positive k → Positive l → SlopeBelow j k → SlopeBelow k l → SlopeBelow j l
+slope-trans j k l = below-trans (j .p) (j .d) (k .p) (k .d) (l .p) (l .d)
+
 -- ---- lowest terms
 pub record Proper (l : Line) : Type 0 where
   pub positive : Positive l
@@ -134,7 +138,7 @@ precedes-irrefl l (by-slope h) = <ℤ-irrefl h
 precedes-irrefl l (by-intercept e h) = <ℤ-irrefl h
 
 precedes-trans : {j k l : Line} → Positive j → Positive k → Positive l → Precedes j k → Precedes k l → Precedes j l
-precedes-trans {j} {k} {l} g h m (by-slope s) (by-slope t) = by-slope (below-trans (j .p) (j .d) (k .p) (k .d) (l .p) (l .d) g h m s t)
+precedes-trans {j} {k} {l} g h m (by-slope s) (by-slope t) = by-slope (slope-trans j k l g h m s t)
 precedes-trans {j} {k} {l} g h m (by-slope s) (by-intercept e t) = by-slope (below-equal (j .p) (j .d) (k .p) (k .d) (l .p) (l .d) h m s e)
 precedes-trans {j} {k} {l} g h m (by-intercept e s) (by-slope t) = by-slope (equal-below (j .p) (j .d) (k .p) (k .d) (l .p) (l .d) g h e t)
 precedes-trans {j} {k} {l} g h m (by-intercept e s) (by-intercept f t) =
@@ -204,6 +208,9 @@ module _ {x y x′ y′ : ℤ} where
         right-positive = s .right-positive;
         scaled = scaled-flip (s .left) (s .right) x y x′ y′ (s .scaled);
       }
+
+  pub order-sym : SameOrder x y x′ y′ → SameOrder x′ y′ x y
+  order-sym s = record { left = s .right; right = s .left; left-positive = s .right-positive; right-positive = s .left-positive; scaled = sym (s .scaled) }
 
   order-trans : {x″ y″ : ℤ} → SameOrder x y x′ y′ → SameOrder x′ y′ x″ y″ → SameOrder x y x″ y″
   order-trans {x″} {y″} s t =

@@ -3,19 +3,20 @@
 --     mean-reduced           a weighted mean of lines is one of the same lines in lowest terms
 --     mean-same              lines that restate each other are means of the same lines, with the same weights
 --     Corner-same            a line that restates a corner is a corner
+--     MeanOfTwo              the mean of two lines, in slope or in intercept, with integers for weights
+--     mean-of-two            with weights that are not below 0, nor both 0, it is a weighted mean; two-of-mean: the other way round
 --     between-means          a line that passes the test `between` for two others is strictly between them
 --
 -- Assumes nothing.
-use mathlib.Core.Path.{_≡_, refl, sym, _∙_, ap, subst₂}
+use mathlib.Core.Path.{_≡_, refl, sym, _∙_, ap, subst, subst₂}
 use mathlib.Core.Bool.{_&&_}
 use mathlib.Core.List.{List, [], _∷_, map}
 use Prim.Native.Nat.{ℕ, _+_, _<_}
 use native.Mathlib.Nat.{add-zero}
-use native.Mathlib.Omega.{arith}
 use lib.Dec.{T}
 use lib.IntN.{ℤ, pos, negsuc, natAbs, _+ℤ_, _-ℤ_, _*ℤ_}
 use lib.ListN.{length-map}
-use lib.Signed.{_<ℤ_}
+use lib.Signed.{_≤ℤ_, _<ℤ_}
 use Rattle.integers.specs.Parts.{ints}
 use Rattle.integers.specs.OrderLaws.{nonneg-pos, <ℤ→≤ℤ, mul-pos, sub-pos}
 use Rattle.integers.specs.RingSolver.{var, lit, :neg, _:*_, _:-_}
@@ -115,6 +116,52 @@ between-same r b =
 pub Corner-same : {rs : List Range} {l m : Line} → Restates l m → Corner rs l → Corner rs m
 Corner-same r c = record { fit = InFit-same r (c .fit); extreme = λ j k f g b. c .extreme j k f g (between-same (restates-sym r) b) }
 
+-- ---- the mean of two lines
+
+-- v · (f of j)/(j's d) + w · (f of k)/(k's d) is (v + w) · (f of l)/(l's d), multiplied out
+abbrev pub MeanOfTwo : (Line → ℤ) → ℤ → ℤ → Line → Line → Line → Type 0
+MeanOfTwo f v w j k l = v *ℤ f j *ℤ k .d *ℤ l .d +ℤ w *ℤ f k *ℤ j .d *ℤ l .d ≡ (v +ℤ w) *ℤ f l *ℤ j .d *ℤ k .d
+
+-- the sum of two fractions as `weightedSum` has it, and s for the total of the weights
+mean-written : (v w s fj jd fk kd fl ld : ℤ) → s ≡ v +ℤ w → v *ℤ fj *ℤ kd *ℤ ld +ℤ w *ℤ fk *ℤ jd *ℤ ld ≡ (v +ℤ w) *ℤ fl *ℤ jd *ℤ kd
+    → (v *ℤ fj *ℤ (kd *ℤ pos 1) +ℤ (w *ℤ fk *ℤ pos 1 +ℤ pos 0 *ℤ kd) *ℤ jd) *ℤ ld ≡ s *ℤ fl *ℤ (jd *ℤ (kd *ℤ pos 1))
+mean-written v w s fj jd fk kd fl ld =
+    certify! (v ∷ w ∷ s ∷ fj ∷ jd ∷ fk ∷ kd ∷ fl ∷ ld ∷ []) (search claims depth 60) (num 1) (eqn 1 (lit (pos 1)) ⊞ eqn 0 (:neg (var 7 :* var 4 :* var 6))) tt
+
+mean-read : (v w s fj jd fk kd fl ld : ℤ) → s ≡ v +ℤ w → (v *ℤ fj *ℤ (kd *ℤ pos 1) +ℤ (w *ℤ fk *ℤ pos 1 +ℤ pos 0 *ℤ kd) *ℤ jd) *ℤ ld ≡ s *ℤ fl *ℤ (jd *ℤ (kd *ℤ pos 1))
+    → v *ℤ fj *ℤ kd *ℤ ld +ℤ w *ℤ fk *ℤ jd *ℤ ld ≡ (v +ℤ w) *ℤ fl *ℤ jd *ℤ kd
+mean-read v w s fj jd fk kd fl ld =
+    certify! (v ∷ w ∷ s ∷ fj ∷ jd ∷ fk ∷ kd ∷ fl ∷ ld ∷ []) (search claims depth 60) (num 1) (eqn 1 (lit (pos 1)) ⊞ eqn 0 (var 7 :* var 4 :* var 6)) tt
+
+total-two : (v w : ℕ) → pos (total (v ∷ w ∷ [])) ≡ pos v +ℤ pos w
+unfolding total
+total-two v w = ap (λ n. pos (v + n)) (add-zero w)
+
+module _ (f : Line → ℤ) (j k l : Line) where
+  mean-given : (v w : ℤ) → pos 0 ≤ℤ v → pos 0 ≤ℤ w → MeanOfTwo f v w j k l → MeanOf f (natAbs v ∷ natAbs w ∷ []) (j ∷ k ∷ []) l
+  unfolding weightedSum
+  mean-given v w g h m =
+      mean-written (pos (natAbs v)) (pos (natAbs w)) (pos (total (natAbs v ∷ natAbs w ∷ []))) (f j) (j .d) (f k) (k .d) (f l) (l .d) (total-two (natAbs v) (natAbs w))
+      (subst₂ (λ x y. MeanOfTwo f x y j k l) (nonneg-pos g) (nonneg-pos h) m)
+
+  pub two-of-mean : (v w : ℕ) → MeanOf f (v ∷ w ∷ []) (j ∷ k ∷ []) l → MeanOfTwo f (pos v) (pos w) j k l
+  unfolding weightedSum
+  two-of-mean v w = mean-read (pos v) (pos w) (pos (total (v ∷ w ∷ []))) (f j) (j .d) (f k) (k .d) (f l) (l .d) (total-two v w)
+
+some-weight : (v w : ℕ) → pos 0 <ℤ (pos v +ℤ pos w) → 0 < total (v ∷ w ∷ [])
+some-weight v w h = abs-above-0 (pos (total (v ∷ w ∷ []))) (subst (λ x. pos 0 <ℤ x) (sym (total-two v w)) h)
+
+-- weights that are not below 0, nor both 0
+pub mean-of-two : (j k l : Line) (v w : ℤ) → pos 0 ≤ℤ v → pos 0 ≤ℤ w → pos 0 <ℤ (v +ℤ w) → MeanOfTwo (λ x. x .p) v w j k l → MeanOfTwo (λ x. x .q) v w j k l
+    → IsMean (natAbs v ∷ natAbs w ∷ []) (j ∷ k ∷ []) l
+mean-of-two j k l v w g h over slope intercept =
+    record {
+      one-each = refl;
+      not-all-0 = some-weight (natAbs v) (natAbs w) (subst₂ (λ x y. pos 0 <ℤ (x +ℤ y)) (nonneg-pos g) (nonneg-pos h) over);
+      slope = mean-given (λ x. x .p) j k l v w g h slope;
+      intercept = mean-given (λ x. x .q) j k l v w g h intercept;
+    }
+
 -- ---- what the test `between` means
 
 -- lines in two coordinates a and b, which are slope and intercept or intercept and slope: from the differences in a come the weights of the mean
@@ -148,54 +195,30 @@ module _ (ja jb jd ka kb kd la lb ld : ℤ) where
       certify! (ja ∷ jb ∷ jd ∷ ka ∷ kb ∷ kd ∷ la ∷ lb ∷ ld ∷ []) (search claims depth 60) (num 1)
       (hyp 1 ⊠ hyp 2 ⊞ eqn 3 (:neg (var 5)) ⊞ eqn 0 (var 1 :* var 5 :- var 4 :* var 2)) tt
 
-mean-of-two : (v w s fj jd fk kd fl ld : ℤ) → s ≡ v +ℤ w → v *ℤ fj *ℤ kd *ℤ ld +ℤ w *ℤ fk *ℤ jd *ℤ ld ≡ (v +ℤ w) *ℤ fl *ℤ jd *ℤ kd
-    → (v *ℤ fj *ℤ (kd *ℤ pos 1) +ℤ (w *ℤ fk *ℤ pos 1 +ℤ pos 0 *ℤ kd) *ℤ jd) *ℤ ld ≡ s *ℤ fl *ℤ (jd *ℤ (kd *ℤ pos 1))
-mean-of-two v w s fj jd fk kd fl ld =
-    certify! (v ∷ w ∷ s ∷ fj ∷ jd ∷ fk ∷ kd ∷ fl ∷ ld ∷ []) (search claims depth 60) (num 1) (eqn 1 (lit (pos 1)) ⊞ eqn 0 (:neg (var 7 :* var 4 :* var 6))) tt
+sum-over : (v w : ℤ) → pos 0 <ℤ v → pos 0 <ℤ w → pos 0 <ℤ (v +ℤ w)
+sum-over v w = certify! (v ∷ w ∷ []) (search claims depth 40) (num 1) (hyp 0 ⊞ hyp 1) tt
 
-some-weight : (v w : ℕ) → 0 < v → 0 < total (v ∷ w ∷ [])
-unfolding total
-some-weight v w h = omega arith
-
--- two weights with which l is the mean of j and k in slope and in intercept
+-- two weights above 0 with which l is the mean of j and k in slope and in intercept
 record Weights (a b : Line → ℤ) (j k l : Line) : Type 0 where
-  first : ℕ
-  second : ℕ
-  first-over : 0 < first
-  second-over : 0 < second
-  along : MeanOf a (first ∷ second ∷ []) (j ∷ k ∷ []) l
-  across : MeanOf b (first ∷ second ∷ []) (j ∷ k ∷ []) l
+  first : ℤ
+  second : ℤ
+  first-over : pos 0 <ℤ first
+  second-over : pos 0 <ℤ second
+  along : MeanOfTwo a first second j k l
+  across : MeanOfTwo b first second j k l
 
 module _ {j k l : Line} (j-over : Positive j) (k-over : Positive k) (l-over : Positive l) where
   weights : (a b : Line → ℤ) → (a j *ℤ l .d) <ℤ (a l *ℤ j .d) → (a l *ℤ k .d) <ℤ (a k *ℤ l .d)
       → determinant (a j) (b j) (j .d) (a k) (b k) (k .d) (a l) (b l) (l .d) ≡ pos 0 → Weights a b j k l
-  unfolding weightedSum total
   weights a b g h e =
       record {
-        first = natAbs v;
-        second = natAbs w;
-        first-over = abs-above-0 v v-over;
-        second-over = abs-above-0 w w-over;
-        along = mean-of a (mean-along (a j) (b j) (j .d) (a k) (b k) (k .d) (a l) (b l) (l .d));
-        across = mean-of b (mean-across (a j) (b j) (j .d) (a k) (b k) (k .d) (a l) (b l) (l .d) e);
+        first = leftWeight (a j) (b j) (j .d) (a k) (b k) (k .d) (a l) (b l) (l .d);
+        second = rightWeight (a j) (b j) (j .d) (a k) (b k) (k .d) (a l) (b l) (l .d);
+        first-over = mul-pos j-over (sub-pos h);
+        second-over = mul-pos k-over (sub-pos g);
+        along = mean-along (a j) (b j) (j .d) (a k) (b k) (k .d) (a l) (b l) (l .d);
+        across = mean-across (a j) (b j) (j .d) (a k) (b k) (k .d) (a l) (b l) (l .d) e;
       }
-    where
-      v : ℤ
-      v = leftWeight (a j) (b j) (j .d) (a k) (b k) (k .d) (a l) (b l) (l .d)
-
-      w : ℤ
-      w = rightWeight (a j) (b j) (j .d) (a k) (b k) (k .d) (a l) (b l) (l .d)
-
-      v-over : pos 0 <ℤ v
-      v-over = mul-pos j-over (sub-pos h)
-
-      w-over : pos 0 <ℤ w
-      w-over = mul-pos k-over (sub-pos g)
-
-      mean-of : (f : Line → ℤ) → v *ℤ f j *ℤ k .d *ℤ l .d +ℤ w *ℤ f k *ℤ j .d *ℤ l .d ≡ (v +ℤ w) *ℤ f l *ℤ j .d *ℤ k .d → MeanOf f (natAbs v ∷ natAbs w ∷ []) (j ∷ k ∷ []) l
-      mean-of f m =
-          mean-of-two (pos (natAbs v)) (pos (natAbs w)) (pos (natAbs v + (natAbs w + 0))) (f j) (j .d) (f k) (k .d) (f l) (l .d) (ap (λ n. pos (natAbs v + n)) (add-zero (natAbs w)))
-          (subst₂ (λ x y. x *ℤ f j *ℤ k .d *ℤ l .d +ℤ y *ℤ f k *ℤ j .d *ℤ l .d ≡ (x +ℤ y) *ℤ f l *ℤ j .d *ℤ k .d) (nonneg-pos (<ℤ→≤ℤ v-over)) (nonneg-pos (<ℤ→≤ℤ w-over)) m)
 
   between-weights : Precedes j l → Precedes l k → side j k l ≡ pos 0 → Weights (λ x. x .p) (λ x. x .q) j k l
   unfolding side
@@ -212,11 +235,11 @@ module _ {j k l : Line} (j-over : Positive j) (k-over : Positive k) (l-over : Po
   unfolding between
   between-means t =
       record {
-        first = m .first;
-        second = m .second;
-        first-over = m .first-over;
-        second-over = m .second-over;
-        mean = record { one-each = refl; not-all-0 = some-weight (m .first) (m .second) (m .first-over); slope = m .along; intercept = m .across };
+        first = natAbs (m .first);
+        second = natAbs (m .second);
+        first-over = abs-above-0 (m .first) (m .first-over);
+        second-over = abs-above-0 (m .second) (m .second-over);
+        mean = mean-of-two j k l (m .first) (m .second) (<ℤ→≤ℤ (m .first-over)) (<ℤ→≤ℤ (m .second-over)) (sum-over (m .first) (m .second) (m .first-over) (m .second-over)) (m .along) (m .across);
         not-first = precedes-distinct j-before;
         not-second = λ s. precedes-distinct k-after (same-sym s);
       }

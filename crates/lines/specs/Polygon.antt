@@ -3,7 +3,7 @@
 --     corners-of                 the polygon's list has all that `CornerList` asks of a list of corners
 --     extremes-of                its two lines have all that `OutlookTimes` asks of the slow and the fast line
 --     decides                    among ordered ranges, `hasLine` decides whether some line fits, which consecutive parts inherit
---     closes                     a range that cannot join is kept out by two ranges of the run
+--     closes                     a range that cannot join is kept out by two ranges of the run, one earlier than the other
 --
 -- Assumes nothing.
 use mathlib.Core.Path.{subst}
@@ -80,5 +80,5 @@ closes (r ∷ []) w o h out = absurd (out (two-have-line r w o))
 closes (r ∷ s ∷ ws) w o h out =
     elim (joins-or-closes r s ws (ordered-left (r ∷ s ∷ ws) (w ∷ []) o) h w o) [
       | inl j ↦ absurd (out j)
-      | inr c ↦ record { first = c .first; second = c .second; first-in = c .first-in; second-in = c .second-in; no-line = c .no-line }
+      | inr c ↦ record { first = c .first; second = c .second; first-in = c .first-in; second-in = c .second-in; earlier = c .earlier; no-line = c .no-line }
     ]

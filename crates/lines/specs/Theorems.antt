@@ -2,13 +2,18 @@
 --
 -- The fit
 --     has-line                   `hasLine` passes exactly if some line fits each of the ranges
---     one-range-open             one range has lines of every slope
+--     one-range-open, one-range-no-corner   one range has lines of every slope, and no corner
 --     two-ranges                 two ranges always have a line
 -- The corners of two or more ranges that have a line
 --     corners-exact              a line is listed exactly if it is a corner, in lowest terms
 --     corners-ordered, corners-once, corners-count   in corner order, none twice, at most 2k for k ranges
+--     corners-by-diagonal        the same order in the words of `Diagonal`: above the diagonal is a greater intercept than the diagonal has at the same slope, below it a smaller one
 --     corners-unique             no other list is so
 --     corners-fit, corners-mean  each fits, and every line of the fit is a weighted mean of them
+-- The diagonal, from a line to one of greater slope
+--     diagonal-line, diagonal-only   it has a line of every slope from the one to the other, and a single one
+--     side-above, side-below     the determinant `side` is above 0, or below 0, exactly if a line's intercept is greater, or smaller, than that of the diagonal's line of its slope
+--     corner-order-iff           so the corner order of the definitions is that of `Diagonal`
 -- The outlook of two or more ranges that have a line
 --     outlook-means              its lines have the least and the greatest slope of the fit, its times are the least at which some and all lines of the fit reach the level (RunOutlook)
 -- The segments: demand 3
@@ -16,7 +21,7 @@
 --     segments-times, segments-ranges   the times given are those of the first and the last range of each, and its ranges are those from the one time to the other
 --     segments-ahead             no split's j-th run ends after the j-th segment, by last times; segments-ahead-count: by the number of ranges, for every j
 --     segments-fewest            every split has at least as many runs
---     segments-close             where a further range closes a segment, two ranges of it and the further one have no line
+--     segments-close             where a further range closes a segment, two ranges of it, at different times, and the further one have no line
 --     segments-room              at most 2,048
 --     segments-back              cutting from the end gives as many
 --     running-has-line           the segment then running after k ranges is not empty and has a line
@@ -27,17 +32,17 @@ use mathlib.Core.Logic.{_↔_}
 use mathlib.Core.List.{List, [], _∷_, _++_, reverse, List·Nodup}
 use Prim.Native.Nat.{ℕ, _*_, _<_, _≤_}
 use lib.Dec.{T}
-use lib.IntN.{ℤ, pos}
+use lib.IntN.{ℤ, pos, _*ℤ_}
 use lib.ListN.{length, getD}
-use lib.Signed.{_<ℤ_}
-use Rattle.integers.specs.Lists.{All, All-of, In, filter}
+use lib.Signed.{_≤ℤ_, _<ℤ_}
+use Rattle.integers.specs.Lists.{All, All-of, All-imp, In, filter}
 use Rattle.integers.specs.LowestTerms.{InLowestTerms}
 use Rattle.definitions.specs.Services.{Service}
 use Rattle.definitions.specs.Spans.{mostRanges, segmentRoom}
 use Rattle.definitions.specs.Ranges.{Range}
 use Rattle.definitions.specs.Lines.{Line, hasLine}
-use Rattle.definitions.specs.Corners.{corners}
-use Rattle.definitions.specs.Fit.{InFit, HasLine, Ordered, WeightedMean, Corner, InCornerOrder}
+use Rattle.definitions.specs.Corners.{side, corners}
+use Rattle.definitions.specs.Fit.{InFit, HasLine, Ordered, SameLine, SlopeBelow, WeightedMean, Corner, InCornerOrder}
 use Rattle.definitions.specs.Splits.{cut, GoodRun, Split, endOf}
 use Rattle.definitions.specs.Segments.{segments, runningAfter}
 use Rattle.definitions.specs.Results.{segmentOf, segmentsOf}
@@ -46,7 +51,11 @@ use Rattle.splits.specs.RunTimes.{inSpan}
 use Rattle.splits.specs.Segments.{TimesOf, TwoWithout}
 use Rattle.splits.specs.Segments as Splits
 use Rattle.chains.specs.Results.{two-have-line}
+use Rattle.lines.specs.LineOrder.{Positive}
 use Rattle.lines.specs.HasLine.{every-slope}
+use Rattle.lines.specs.OneRange.{no-corner}
+use Rattle.lines.specs.Diagonal.{OnDiagonal, ByDiagonal}
+use Rattle.lines.specs.Diagonal as Diagonal
 use Rattle.lines.specs.CornerList as Listing
 use Rattle.lines.specs.Polygon.{corners-of, decides, closes}
 
@@ -58,8 +67,29 @@ has-line rs o = (decides .means rs o, decides .passes rs o)
 pub one-range-open : (r : Range) → Ordered (r ∷ []) → (p d : ℤ) → pos 0 <ℤ d → (q : ℤ) × InFit (r ∷ []) (record { p = p; q = q; d = d })
 one-range-open r o = every-slope r (o .0)
 
+pub one-range-no-corner : (r : Range) (l : Line) → Corner (r ∷ []) l → ⊥
+one-range-no-corner = no-corner
+
 pub two-ranges : (r s : Range) → Ordered (r ∷ s ∷ []) → HasLine (r ∷ s ∷ [])
 two-ranges = two-have-line
+
+-- ---- the diagonal
+
+module _ {j k : Line} (j-over : Positive j) (k-over : Positive k) (rises : SlopeBelow j k) where
+  pub diagonal-line : (l : Line) → Positive l → (j .p *ℤ l .d) ≤ℤ (l .p *ℤ j .d) → (l .p *ℤ k .d) ≤ℤ (k .p *ℤ l .d) → (m : Line) × OnDiagonal j k l m
+  diagonal-line = Diagonal.diagonal-line j-over k-over rises
+
+  pub diagonal-only : {l m n : Line} → Positive l → OnDiagonal j k l m → OnDiagonal j k l n → SameLine m n
+  diagonal-only = Diagonal.diagonal-only j-over k-over rises
+
+  pub side-above : {l m : Line} → OnDiagonal j k l m → (pos 0 <ℤ side j k l) ↔ ((m .q *ℤ l .d) <ℤ (l .q *ℤ m .d))
+  side-above = Diagonal.side-above j-over k-over rises
+
+  pub side-below : {l m : Line} → OnDiagonal j k l m → (side j k l <ℤ pos 0) ↔ ((l .q *ℤ m .d) <ℤ (m .q *ℤ l .d))
+  side-below = Diagonal.side-below j-over k-over rises
+
+pub corner-order-iff : {ls : List Line} → All Positive ls → InCornerOrder ls ↔ ByDiagonal ls
+corner-order-iff = Diagonal.corner-order-iff
 
 -- ---- the corners
 
@@ -81,6 +111,9 @@ module _ (r s : Range) (ws : List Range) (o : Ordered (r ∷ s ∷ ws)) (h : Has
 
   pub corners-fit : All (InFit (r ∷ s ∷ ws)) (corners (r ∷ s ∷ ws))
   corners-fit = All-of (corners (r ∷ s ∷ ws)) (λ l i. corners-exact l .0 i .0 .fit)
+
+  pub corners-by-diagonal : ByDiagonal (corners (r ∷ s ∷ ws))
+  corners-by-diagonal = corner-order-iff (All-imp (λ l f. f .positive) corners-fit) .0 corners-ordered
 
   pub corners-mean : (l : Line) → InFit (r ∷ s ∷ ws) l → WeightedMean (corners (r ∷ s ∷ ws)) l
   corners-mean = Listing.corners-mean o (corners-of r s ws o h)

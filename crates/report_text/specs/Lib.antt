@@ -5,3 +5,4 @@ pub mod SegmentText
 pub mod ReadTraces
 pub mod ReportPromise
 pub mod ReportPromiseLaws
+pub mod Refusals

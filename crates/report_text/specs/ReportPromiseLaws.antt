@@ -10,13 +10,13 @@
 --
 -- Assumes nothing.
 use Prim.Native.Nat.{ℕ, _+_, _≤_, _<_}
-use mathlib.Core.Path.{_≡_, refl, sym, ap, _∙_}
+use mathlib.Core.Path.{_≡_, refl, sym, ap, _∙_, subst}
 use mathlib.Core.Bool.{false}
-use mathlib.Core.List.{List, [], _∷_, _++_, map}
+use mathlib.Core.List.{List, [], _∷_, _++_}
 use native.Mathlib.Omega.{arith}
 use borrow.Author.Tests.{lt-ltb, le-ltb}
 use lib.IntN.{ℤ, pos}
-use lib.ListN.{length, replicate, length-replicate, drop, length-map, length-append}
+use lib.ListN.{length, replicate, length-replicate, drop}
 use mir.Syntax.{w32}
 use mir.Val.{toZ, ofZ}
 use mir.Facts.{toZ-ofZ}
@@ -34,7 +34,7 @@ use Rattle.trace.specs.declared.TraceRecord.{TraceRecord}
 use Rattle.trace.specs.declared.ReadAnswer as R
 use Rattle.trace.specs.declared.ReadAnswer.the-variants as ReadCase
 use Rattle.trace.specs.Promises.{readMeaning, recordOf, readInto, ReadPromise}
-use Rattle.trace.specs.BothWays.{firstOf, lists-read}
+use Rattle.trace.specs.BothWays.{fill-long, firstOf, lists-read, FirstIn, read-in}
 use Rattle.text.specs.Put.{Put}
 use Rattle.report_text.specs.declared.ReportAnswer.the-variants.{Accepted, Refused}
 use Rattle.report_text.specs.Lines.{listsText}
@@ -87,19 +87,12 @@ module _ {file times₀ times : List ℕ} {lows₀ lows highs₀ highs : List �
   unfolding readMeaning
   file-refused {n} e = sym answer-is ∙ bind-refused answer recordOf n (sym (promise .answer-is) ∙ ap readMeaning e)
 
-  -- how many ranges there are, is also how many entries each slice has at least
   pub record TraceRead (known : TraceRecord) : Type 0 where
     pub trace : Trace
     pub read : readFile file ≡ accepted trace
     pub known-is : recordOf trace ≡ known
     pub lists-are : firstOf (known .ranges) times lows highs ≡ listsOf (trace .ranges)
-    pub times-in : known .ranges ≤ length times
-    pub lows-in : known .ranges ≤ length lows
-    pub highs-in : known .ranges ≤ length highs
-
-  long : {A : Type 0} (entries : Trace → List A) (old new : List A) (t : Trace) → answer ≡ accepted t → new ≡ filled answer entries old → length (entries t) ≤ length new
-  unfolding filled
-  long entries old new t e f = omega (arith, ap length (f ∙ ap (λ a. filled a entries old) e), length-append (entries t) (drop (length (entries t)) old))
+    pub inside : FirstIn (known .ranges) times lows highs
 
   pub trace-read : {known : TraceRecord} → r ≡ ReadCase.Accepted known → TraceRead known
   unfolding readMeaning recordOf
@@ -112,9 +105,7 @@ module _ {file times₀ times : List ℕ} {lows₀ lows highs₀ highs : List �
         read = sym answer-is ∙ a;
         known-is = is;
         lists-are = ap (λ n. firstOf n times lows highs) (sym count) ∙ lists-read promise t a;
-        times-in = omega (arith, count, length-map (t .ranges) (λ q. q .time), long (λ t. map (λ q. q .time) (t .ranges)) times₀ times t a (promise .times-are));
-        lows-in = omega (arith, count, length-map (t .ranges) (λ q. q .low), long (λ t. map (λ q. q .low) (t .ranges)) lows₀ lows t a (promise .lows-are));
-        highs-in = omega (arith, count, length-map (t .ranges) (λ q. q .high), long (λ t. map (λ q. q .high) (t .ranges)) highs₀ highs t a (promise .highs-are));
+        inside = read-in (subst (ReadPromise file times₀ lows₀ highs₀ times lows highs) e promise);
       }
 
   -- so what is put for its lists is the report of the file
@@ -141,9 +132,8 @@ zero-room =
 
 -- the report lies in the text
 pub report-inside : {file text₀ text : List ℕ} {n : ℕ} → ReportPromise file text₀ text (Accepted n) → n ≤ length text
-unfolding reportMeaning filled
+unfolding reportMeaning
 report-inside {file} {text₀} {text} {n} promise =
     let call = reportCall (length text₀ ∷ []) file in
     let (bytes, e, f) = bind-accepted call (λ bytes. accepted (length bytes)) n (sym (promise .answer-is)) in
-    let is = promise .text-is ∙ ap (λ a. filled a (λ bytes. bytes) text₀) e in
-    omega (arith, accepted-is f, ap length is, length-append bytes (drop (length bytes) text₀))
+    omega (arith, accepted-is f, fill-long call (λ bytes. bytes) text₀ text bytes e (promise .text-is))

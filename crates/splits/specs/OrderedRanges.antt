@@ -1,6 +1,7 @@
 -- Ordered ranges: their parts, and their times.
 --
 --     ordered-left, ordered-right, ordered-part    parts of an ordered list are ordered
+--     ordered-at                                   each of the runs that one after the other are an ordered list is ordered
 --     ordered-before                               in an ordered list, the times of a front are below those that follow
 --     ordered-append                               the converse: two ordered lists one after the other
 --     times-rise                                   by position: the i-th time is below the j-th where i is below j
@@ -13,7 +14,7 @@
 --
 -- Assumes nothing.
 use mathlib.Core.Path.{_≡_, refl, sym, ap, _∙_, subst}
-use mathlib.Core.List.{List, [], _∷_, _++_, append-nil}
+use mathlib.Core.List.{List, [], _∷_, _++_, flatten, append-nil}
 use Prim.Native.Nat.{ℕ, zero, suc, _+_, _-_, _≤_, _<_}
 use native.Mathlib.Nat.{le-refl}
 use native.Mathlib.Omega.{arith}
@@ -36,6 +37,12 @@ ordered-right (r ∷ xs) ys o = ordered-right xs ys (o .2)
 
 pub ordered-part : (xs ys zs : List Range) → Ordered (xs ++ ys ++ zs) → Ordered ys
 ordered-part xs ys zs o = ordered-right xs ys (ordered-left (xs ++ ys) zs o)
+
+pub ordered-at : (runs : List (List Range)) → Ordered (flatten runs) → (j : ℕ) → Ordered (getD runs j [])
+unfolding flatten
+ordered-at [] o j = tt
+ordered-at (run ∷ runs) o zero = ordered-left run (flatten runs) o
+ordered-at (run ∷ runs) o (suc j) = ordered-at runs (ordered-right run (flatten runs) o) j
 
 pub ordered-before : (xs ys : List Range) → Ordered (xs ++ ys) → All (λ r. All (λ s. r .time < s .time) ys) xs
 ordered-before [] ys o = nil

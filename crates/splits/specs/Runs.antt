@@ -6,6 +6,8 @@
 --     end-nil, end-zero, end-suc, end-rises        where the j-th run ends: `endOf j`
 --     end-take                                     the first j runs are the first `endOf j` elements
 --     lastRun-snoc, lastRun-split                  the last run; all runs are all but the last, and the last
+--     RunWith, run-with                            the run that has the k-th element of all, counted from 1; there is one for each k up to the number of elements
+--     FrontOf                                      a list is the front, up to the k-th element, of the run that has it
 --     same-place                                   two fronts of one list of runs that end at the same element, inside a run, are the same
 --     good-run, good-snoc                          a run of a split is good; a good list that is not empty is a run of a split
 --     good-runs-append, good-at                    the runs of two splits; a run among those of a split
@@ -13,9 +15,12 @@
 -- Assumes nothing.
 use mathlib.Core.Path.{_≡_, refl, sym, ap, ap₂, _∙_}
 use mathlib.Core.Logic.{inl, inr}
+use mathlib.Core.Bool.{Bool, true, false}
 use mathlib.Core.List.{List, [], _∷_, _++_, flatten, dropLast, append-nil, append-assoc, append-cancel-left, head-eq-of-cons-eq}
-use Prim.Native.Nat.{ℕ, zero, suc, _+_, _≤_, _<_}
+use Prim.Native.Nat.{ℕ, zero, suc, _+_, _-_, _≤_, _<_}
 use native.Mathlib.Omega.{arith}
+use borrow.Author.Tests.{ltb-true, ltb-false}
+use lib.Dec.{ltb}
 use lib.ListN.{length, take, length-append}
 use lib.Seq.{append-snoc, take-nil, take-append-add}
 use Rattle.integers.specs.Lists.{Levi, levi, flatten-append}
@@ -86,6 +91,40 @@ module _ {A : Type 0} where
   unfolding lastRun
   lastRun-split run [] = refl
   lastRun-split run (next ∷ runs) = ap (λ l. run ∷ l) (lastRun-split next runs)
+
+  -- ---- the run that has the k-th element
+
+  -- what stands before `run` ends before the k-th element of all, and `run` at it or after it
+  pub record RunWith (k : ℕ) (runs : List (List A)) : Type 0 where
+    pub before : List (List A)
+    pub run : List A
+    pub after : List (List A)
+    pub runs-are : runs ≡ before ++ (run ∷ after)
+    pub over : length (flatten before) < k
+    pub within : k ≤ length (flatten before) + length run
+
+  pub record FrontOf (k : ℕ) (runs : List (List A)) (front : List A) : Type 0 where
+    pub has : RunWith k runs
+    pub is : front ≡ take (k - length (flatten (has .before))) (has .run)
+
+  flatten-longer : (run : List A) (runs : List (List A)) → length (flatten (run ∷ runs)) ≡ length run + length (flatten runs)
+  flatten-longer run runs = ap length (flatten-cons run runs) ∙ length-append run (flatten runs)
+
+  with-first : (k : ℕ) (run : List A) (runs : List (List A)) → 0 < k → k ≤ length run → RunWith k (run ∷ runs)
+  with-first k run runs h b = let none = ap length (flatten-nil {A = A}) in record { before = []; run = run; after = runs; runs-are = refl; over = omega arith; within = omega arith }
+
+  with-later : (k : ℕ) (run : List A) (runs : List (List A)) → length run < k → RunWith (k - length run) runs → RunWith k (run ∷ runs)
+  with-later k run runs h w =
+      let longer = flatten-longer run (w .before) in
+      record { before = run ∷ w .before; run = w .run; after = w .after; runs-are = ap (λ l. run ∷ l) (w .runs-are); over = omega arith; within = omega arith }
+
+  pub run-with : (k : ℕ) (runs : List (List A)) → 0 < k → k ≤ length (flatten runs) → RunWith k runs
+  run-with k [] h b = absurd (omega (arith, ap length (flatten-nil {A = A})))
+  run-with k (run ∷ runs) h b = by (ltb (length run) k) refl (run-with (k - length run) runs)
+    where
+      by : (later : Bool) → ltb (length run) k ≡ later → (0 < k - length run → k - length run ≤ length (flatten runs) → RunWith (k - length run) runs) → RunWith k (run ∷ runs)
+      by false e ih = with-first k run runs h (ltb-false (length run) k e)
+      by true e ih = let beyond = ltb-true (length run) k e in with-later k run runs beyond (ih (omega arith) (omega (arith, flatten-longer run runs)))
 
   -- ---- one place in two ways
 

@@ -5,7 +5,8 @@
 --     TimesOf                          a given segment's first and last times are those of the first and last of some ranges
 --     segment-first-time, segment-last-time, segmentsOf-at   what is given for a run, and for the j-th segment
 --     running-zero, running-joins, running-begins, running-part   the segment then running: range by range, and as a part of a segment of the whole trace
---     TwoWithout                       two ranges of a run such that no line fits those two and a further one
+--     running-front                    the segment then running after k ranges is the front, up to range k, of the whole trace's segment that has range k
+--     TwoWithout                       two ranges of a run, at different times, such that no line fits those two and a further one
 --
 -- With `decides`:
 --
@@ -37,8 +38,8 @@ use Rattle.definitions.specs.Fit.{HasLine, Ordered}
 use Rattle.definitions.specs.Splits.{cut, GoodRun, GoodRuns, Split, endOf, lastRun}
 use Rattle.definitions.specs.Segments.{segments, runningAfter}
 use Rattle.definitions.specs.Results.{Segment, segmentOf, segmentsOf}
-use Rattle.splits.specs.Runs.{good-run, good-at}
-use Rattle.splits.specs.Cutting.{lastRun-joins, lastRun-begins, lastRun-take}
+use Rattle.splits.specs.Runs.{FrontOf, run-with, good-run, good-at}
+use Rattle.splits.specs.Cutting.{cut-whole, lastRun-joins, lastRun-begins, lastRun-take}
 use Rattle.splits.specs.Greedy.{Decides, cut-split, cut-ahead, cut-fewest, cut-closes, ok-closing, lastRun-good}
 use Rattle.splits.specs.Backward.{cut-back}
 use Rattle.splits.specs.OrderedRanges.{firstTimeOf, lastTimeOf, ordered-left, last-range}
@@ -104,6 +105,12 @@ pub running-part : (k : ℕ) (rs : List Range) (before : List (List Range)) (run
 unfolding runningAfter segments
 running-part k rs before run after = lastRun-take hasLine k rs before run after
 
+pub running-front : (k : ℕ) (rs : List Range) → 0 < k → k ≤ length rs → FrontOf k (segments rs) (runningAfter k rs)
+unfolding segments
+running-front k rs h b =
+    let s = run-with k (segments rs) h (omega (arith, ap length (cut-whole hasLine rs))) in
+    record { has = s; is = running-part k rs (s .before) (s .run) (s .after) (s .runs-are) (s .over) (s .within) }
+
 -- ---- two by two
 
 pairs : List Range → List (List Range)
@@ -125,12 +132,13 @@ pairs-count (r ∷ s ∷ rs) = omega (arith, pairs-count rs)
 
 -- ---- demand 3
 
--- two ranges of the run such that no line fits those two and the further one
+-- two ranges of the run, the earlier one first, such that no line fits those two and the further one
 pub record TwoWithout (run : List Range) (further : Range) : Type 0 where
   pub first : Range
   pub second : Range
   pub first-in : In first run
   pub second-in : In second run
+  pub earlier : first .time < second .time
   pub no-line : HasLine (first ∷ second ∷ further ∷ []) → ⊥
 
 module _ (decides : Decides Ordered HasLine hasLine) where

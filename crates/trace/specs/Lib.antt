@@ -9,3 +9,4 @@ pub mod Writing
 pub mod WritingLaws
 pub mod WritingAnswers
 pub mod BothWays
+pub mod Refusals

@@ -1,6 +1,7 @@
 -- Laws of calls: answers one after the other, and calls that try their rows and then give a result.
 --
 --     call-refused, call-accepted           such a call is refused with n exactly where n is the first row to hold, and accepted exactly where none holds
+--     told-refused, told-accepted           the same of an answer that tells of such a call's result
 --     along                                 the same of a call that is equal to such a call
 --     both-accepted                         a call in two steps that is accepted has both accepted
 --     then-then, then-same, then-accepted   calls one after the other
@@ -97,6 +98,18 @@ pub bind-refused : {A B : Type 0} (answer : Answer A) (f : A → B) (n : ℕ) �
 unfolding _>>=_
 bind-refused (refused m) f n e = cc
 bind-refused (accepted a) f n e = refused-not-accepted (sym e)
+
+-- an answer that tells of the result of a call on rows, by a part of it
+module _ {A B : Type 0} (rows : List Row) (a : A) (tells : A → B) {answer : Answer B} (is : answer ≡ ((firstRow rows >>= λ ok. accepted a) >>= λ b. accepted (tells b))) where
+  told : answer ≡ (firstRow rows >>= λ ok. accepted (tells a))
+  unfolding _>>=_
+  told = is ∙ then-then (firstRow rows) (λ ok. accepted a) (λ b. accepted (tells b))
+
+  pub told-refused : (n : ℕ) → (answer ≡ refused n) ↔ FirstAt n rows
+  told-refused n = along told (call-refused rows (tells a) n)
+
+  pub told-accepted : (answer ≡ accepted (tells a)) ↔ NoneHolds rows
+  told-accepted = (λ e. call-accepted rows (tells a) (tells a) .0 (sym told ∙ e) .0, λ h. told ∙ call-accepted rows (tells a) (tells a) .1 (h, refl))
 
 -- ---- trials, which are accepted with nothing
 

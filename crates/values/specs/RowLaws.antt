@@ -9,7 +9,7 @@
 use Prim.Native.Nat.{ℕ, zero, suc, _≤_, _<_}
 use mathlib.Core.Path.{_≡_, refl, sym, ap₂, subst}
 use mathlib.Core.Option.{none, some}
-use mathlib.Core.List.{List, [], _∷_, flatten}
+use mathlib.Core.List.{List, [], _∷_}
 use native.Mathlib.Omega.{arith}
 use borrow.Author.Tests.{lt-ltb, le-ltb}
 use lib.ListN.{length, getD}
@@ -23,7 +23,7 @@ use Rattle.definitions.specs.Splits.{GoodRun, GoodRuns}
 use Rattle.definitions.specs.Segments.{segments}
 use Rattle.definitions.specs.Outlook.{Outlook, open-strip, lines, outlook}
 use Rattle.definitions.specs.Results.{Segment, segmentOf, segmentsOf, timeNumber, slowLine, fastLine, someNumber, allNumber, numbersOf}
-use Rattle.splits.specs.OrderedRanges.{ordered-left, ordered-right}
+use Rattle.splits.specs.OrderedRanges.{ordered-at}
 use Rattle.splits.specs.Segments.{segmentsOf-at}
 use Rattle.lines.specs.HasLine.{no-ranges}
 use Rattle.lines.specs.RunOutlook.{outlook-means}
@@ -87,12 +87,6 @@ line-at : (runs : List (List Range)) → GoodRuns HasLine runs → (j : ℕ) →
 line-at [] g j = no-ranges
 line-at (run ∷ runs) g zero = good-line run (g .0)
 line-at (run ∷ runs) g (suc j) = line-at runs (g .1) j
-
-ordered-at : (runs : List (List Range)) → Ordered (flatten runs) → (j : ℕ) → Ordered (getD runs j [])
-unfolding flatten
-ordered-at [] o j = tt
-ordered-at (run ∷ runs) o zero = ordered-left run (flatten runs) o
-ordered-at (run ∷ runs) o (suc j) = ordered-at runs (ordered-right run (flatten runs) o) j
 
 pub rows-back : (v : Service) (rs : List Range) → Ordered rs → (j : ℕ) → let s = getD (segmentsOf v rs) j (segmentOf v []) in segmentFrom (numbersOf s) ≡ s
 rows-back v rs o j =

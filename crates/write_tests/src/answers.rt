@@ -1,5 +1,6 @@
 // A call of Write, what is written of its answer, and what is read back.
 use definitions::limits::READ_ROOM;
+use round_trip::read_then_write;
 use testing::telling::say;
 use trace::WriteAnswer;
 use trace::write;
@@ -32,6 +33,19 @@ pub fn tell_write(
 ) {
     let before = bytes_digest(file);
     tell_answer(write(address, level, times, lows, highs, file));
+    contents(before, bytes_digest(file));
+}
+
+// Writes what is read of a file, and the rest of a line.
+pub fn tell_copy(
+    made: &[u8],
+    times: &mut [u32],
+    lows: &mut [i32],
+    highs: &mut [i32],
+    file: &mut [u8],
+) {
+    let before = bytes_digest(file);
+    tell_answer(read_then_write(made, times, lows, highs, file));
     contents(before, bytes_digest(file));
 }
 

@@ -1,26 +1,25 @@
 // Lists of the most ranges, the sample's lists cut at different lengths, and slices of other lengths.
 use crate::answers::read_back;
+use crate::answers::tell_copy;
 use crate::answers::tell_write;
 use definitions::limits::MOST_RANGES;
 use definitions::limits::WRITE_ROOM;
 use fields::parts::part;
 use testing::lists::first_times;
 use testing::lists::first_values;
-use trace::read;
 use trace_testing::making::put_many;
 use trace_testing::making::put_sample;
 use trace_testing::telling::title_of_three;
 
 // ---- the most ranges
 
-// Writes the lists that Read gives of the file `made`. Its answer needs no look: other lists would make other bytes.
+// Writes the lists that Read gives of the file `made`.
 fn write_most(made: &[u8], file: &mut [u8]) {
     let mut times = [0u32; MOST_RANGES];
     let mut lows = [0i32; MOST_RANGES];
     let mut highs = [0i32; MOST_RANGES];
-    read(made, &mut times, &mut lows, &mut highs);
     title_of_three(b"write lists", times.len(), lows.len(), highs.len());
-    tell_write(255, -268435456, &times, &lows, &highs, file);
+    tell_copy(made, &mut times, &mut lows, &mut highs, file);
 }
 
 pub fn most(file: &mut [u8]) {

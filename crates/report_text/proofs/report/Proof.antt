@@ -56,22 +56,22 @@ enum-known-answer-2 : tie.Need-enum-known-answer-2
 enum-known-answer-2 c = search needs
 
 array-share-prefix-times : tie.Need-array-share-prefix-times
-array-share-prefix-times c = accepts (c .before .before) .times-in
+array-share-prefix-times c = accepts (c .before .before) .inside .times-in
 
 slice-aggregate-put-trace : tie.Need-slice-aggregate-put-trace
-slice-aggregate-put-trace c = let answer = c .before .before .before in sym (length-take-le (answer .answer2 .given .0 .0 .ranges) (answer .before .before .before .before .before .read .last .1 .0) (accepts answer .times-in))
+slice-aggregate-put-trace c = let answer = c .before .before .before in sym (length-take-le (answer .answer2 .given .0 .0 .ranges) (answer .before .before .before .before .before .read .last .1 .0) (accepts answer .inside .times-in))
 
 array-share-prefix-lows : tie.Need-array-share-prefix-lows
-array-share-prefix-lows c = accepts (c .before .before .before) .lows-in
+array-share-prefix-lows c = accepts (c .before .before .before) .inside .lows-in
 
 slice-aggregate-put-trace-2 : tie.Need-slice-aggregate-put-trace-2
-slice-aggregate-put-trace-2 c = let answer = c .before .before .before .before in sym (length-take-le (answer .answer2 .given .0 .0 .ranges) (answer .before .before .before .before .before .read .last .1 .1 .0) (accepts answer .lows-in))
+slice-aggregate-put-trace-2 c = let answer = c .before .before .before .before in sym (length-take-le (answer .answer2 .given .0 .0 .ranges) (answer .before .before .before .before .before .read .last .1 .1 .0) (accepts answer .inside .lows-in))
 
 array-share-prefix-highs : tie.Need-array-share-prefix-highs
-array-share-prefix-highs c = accepts (c .before .before .before .before) .highs-in
+array-share-prefix-highs c = accepts (c .before .before .before .before) .inside .highs-in
 
 slice-aggregate-put-trace-3 : tie.Need-slice-aggregate-put-trace-3
-slice-aggregate-put-trace-3 c = let answer = c .before .before .before .before .before in sym (length-take-le (answer .answer2 .given .0 .0 .ranges) (answer .before .before .before .before .before .read .last .1 .1 .1 .0) (accepts answer .highs-in))
+slice-aggregate-put-trace-3 c = let answer = c .before .before .before .before .before in sym (length-take-le (answer .answer2 .given .0 .0 .ranges) (answer .before .before .before .before .before .read .last .1 .1 .1 .0) (accepts answer .inside .highs-in))
 
 put-trace-requires : tie.Need-put-trace-requires
 put-trace-requires c κs = search needs
