@@ -18,9 +18,12 @@
  *   10   times, lows and highs differ in length
  *
  * A slice is a pointer and the number of its entries. What C cannot say and a caller has to keep:
- *   - no pointer is null, not even with a length of 0;
- *   - each points to as many entries as the length beside it tells, aligned as its type asks;
- *   - what a function fills overlaps nothing else that it is lent.
+ *   - each pointer of a slice points to as many entries as the length beside it tells, aligned as its type asks; beside
+ *     a length of 0 it may be null;
+ *   - each pointer to a single number points to one, and is never null;
+ *   - what a function fills or sets overlaps nothing else that it is lent.
+ * What a function fills or sets is never read, so it need not be initialised: it is written on success, and else left
+ * alone.
  * After success, entries past the reported count hold their old contents.
  */
 #ifndef HUMORAKI_H

@@ -1,6 +1,9 @@
 //! The calls, on a trace whose answers are known.
 
+use super::declarations::{humoraki_corners, humoraki_read, humoraki_report, humoraki_segment, humoraki_write};
+use super::lent::Columns;
 use super::*;
+use std::ptr::{null, null_mut};
 
 /// The trace of the repository's first sample.
 fn example() -> Trace {
@@ -78,4 +81,90 @@ fn entries_past_the_count_hold_what_they_held() {
     let mut count = 0;
     assert_eq!(lent::segment(20, example().ranges(), table.columns(), &mut count), Ok(()));
     assert_eq!((count, &table.alls[..3]), (2, &[64, NONE, 77][..]));
+}
+
+/// Calls a function as C may: with null and 0 for each slice that it reads, and for one of those that it fills.
+macro_rules! call_without {
+    ($missing:expr, $function:ident($($value:expr),*; $($read:ty),*; $($filled:ident),*; $($set:expr),*)) => {
+        // SAFETY: a null pointer has the length 0 beside it. The others are slices' own, with their lengths, and what
+        // is filled or set is borrowed as mutable, so it overlaps nothing else.
+        unsafe {
+            $function(
+                $($value,)*
+                $(null::<$read>(), 0,)*
+                $(
+                    if $missing == stringify!($filled) { null_mut() } else { $filled.as_mut_ptr() },
+                    if $missing == stringify!($filled) { 0 } else { $filled.len() },
+                )*
+                $($set,)*
+            )
+        }
+    };
+}
+
+macro_rules! over_columns {
+    ($($column:ident: $number:ty,)*) => {
+        const COLUMNS: &[&str] = &[$(stringify!($column)),*];
+
+        fn segment_without(missing: &str, columns: Columns, count: &mut usize) -> u8 {
+            let Columns { $($column),* } = columns;
+            call_without!(missing, humoraki_segment(20; u32, i32, i32; $($column),*; count))
+        }
+    };
+}
+
+segment_columns!(over_columns);
+
+#[test]
+fn read_takes_null_slices() {
+    for (missing, number) in [("times", 8), ("lows", 8), ("highs", 8), ("nothing", 1)] {
+        let (mut times, mut lows, mut highs) = ([77; READ_ROOM], [77; READ_ROOM], [77; READ_ROOM]);
+        let (mut address, mut level, mut ranges) = (77, 77, 77);
+        let set = (&mut address, &mut level, &mut ranges);
+        assert_eq!(call_without!(missing, humoraki_read(; u8; times, lows, highs; set.0, set.1, set.2)), number);
+        assert_eq!((times, lows, highs), ([77; READ_ROOM], [77; READ_ROOM], [77; READ_ROOM]));
+        assert_eq!((address, level, ranges), (77, 77, 77));
+    }
+}
+
+#[test]
+fn write_takes_null_slices() {
+    let mut file = [77; WRITE_ROOM];
+    let mut count = 77;
+    assert_eq!(call_without!("file", humoraki_write(7, 20; u32, i32, i32; file; &mut count)), 8);
+    assert_eq!((file, count), ([77; WRITE_ROOM], 77));
+    assert_eq!(call_without!("nothing", humoraki_write(7, 20; u32, i32, i32; file; &mut count)), 0);
+    assert_eq!(file[..count], [1, 0, 1, 7, 2, 0, 4, 0, 0, 0, 20]);
+}
+
+#[test]
+fn segment_takes_null_slices() {
+    let mut table = Table::holding(77);
+    let mut count = 77;
+    for missing in COLUMNS {
+        assert_eq!((segment_without(missing, table.columns(), &mut count), count), (8, 77));
+    }
+    assert_eq!((segment_without("nothing", table.columns(), &mut count), count), (0, 0));
+    assert_eq!(table, Table::holding(77));
+}
+
+#[test]
+fn corners_takes_null_slices() {
+    for (missing, number) in [("ps", 8), ("qs", 8), ("ds", 8), ("nothing", 9)] {
+        let (mut ps, mut qs, mut ds) = ([77; CORNER_ROOM], [77; CORNER_ROOM], [77; CORNER_ROOM]);
+        let mut count = 77;
+        assert_eq!(call_without!(missing, humoraki_corners(1; u32, i32, i32; ps, qs, ds; &mut count)), number);
+        assert_eq!((ps, qs, ds), ([77; CORNER_ROOM], [77; CORNER_ROOM], [77; CORNER_ROOM]));
+        assert_eq!(count, 77);
+    }
+}
+
+#[test]
+fn report_takes_null_slices() {
+    let mut text = vec![77; REPORT_ROOM];
+    let mut count = 77;
+    assert_eq!(call_without!("text", humoraki_report(; u8; text; &mut count)), 8);
+    assert_eq!((&text, count), (&vec![77; REPORT_ROOM], 77));
+    assert_eq!(call_without!("nothing", humoraki_report(; u8; text; &mut count)), 0);
+    assert_eq!(text[..count], *b"refused 1\n");
 }

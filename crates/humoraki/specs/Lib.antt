@@ -1,3 +1,5 @@
 pub mod Promises
 pub mod PromiseLaws
 pub mod Zero
+pub mod OpenFit
+pub mod Refusals

@@ -1,10 +1,12 @@
 // What other languages link: the calls on numbers and slices. Each gives 0, or the number of a refusal,
-// and puts its counts and records into lent numbers, which keep their old value after a refusal.
-mod answers; // answers.rt: the answers of the calls with a count, as numbers
-
+// and puts its counts and records into lent numbers: it never reads them, and sets them on success alone.
 ghost use Rattle.drift.specs.Columns.{columns};
 ghost use Rattle.humoraki.specs.Promises.{AfterRead, AfterWrite, AfterSegment, AfterCorners, AfterReport};
+use drift::CornersAnswer;
+use drift::SegmentAnswer;
+use report_text::ReportAnswer;
 use trace::ReadAnswer;
+use trace::WriteAnswer;
 
 // The trace of a file, with its address, level and number of ranges.
 #[no_mangle]
@@ -46,9 +48,13 @@ pub extern "C" fn humoraki_write(
     ensures { λ r. ⌜ AfterWrite address level (record { times = now (times .entry); lows = now (lows .entry); highs = now (highs .entry) }) (record { file = now (file .entry); count = now (count .entry) }) (record { file = now (file .exit); count = now (count .exit) }) r ⌝ }
 {
     let answer = trace::write(address, level, times, lows, highs, file);
-    let written = answers::of_write(answer, *count);
-    *count = written.count;
-    written.number
+    match answer {
+        WriteAnswer::Accepted(bytes) => {
+            *count = bytes;
+            0
+        }
+        WriteAnswer::Refused(number) => number,
+    }
 }
 
 // The segments of a trace, and their count.
@@ -90,9 +96,13 @@ pub extern "C" fn humoraki_segment(
         somes,
         alls,
     );
-    let segmented = answers::of_segment(answer, *count);
-    *count = segmented.count;
-    segmented.number
+    match answer {
+        SegmentAnswer::Accepted(segments) => {
+            *count = segments;
+            0
+        }
+        SegmentAnswer::Refused(number) => number,
+    }
 }
 
 // The corners of the fit of the segment then running after the first k ranges, and their count, which is 0 where the fit is open.
@@ -110,9 +120,17 @@ pub extern "C" fn humoraki_corners(
     ensures { λ r. ⌜ AfterCorners k (record { times = now (times .entry); lows = now (lows .entry); highs = now (highs .entry) }) (record { ps = now (ps .entry); qs = now (qs .entry); ds = now (ds .entry); count = now (count .entry) }) (record { ps = now (ps .exit); qs = now (qs .exit); ds = now (ds .exit); count = now (count .exit) }) r ⌝ }
 {
     let answer = drift::corners(k, times, lows, highs, ps, qs, ds);
-    let cornered = answers::of_corners(answer, *count);
-    *count = cornered.count;
-    cornered.number
+    match answer {
+        CornersAnswer::Corners(corners) => {
+            *count = corners;
+            0
+        }
+        CornersAnswer::Open => {
+            *count = 0;
+            0
+        }
+        CornersAnswer::Refused(number) => number,
+    }
 }
 
 // The report of a file, and the count of its bytes.
@@ -121,7 +139,11 @@ pub extern "C" fn humoraki_report(file: &[u8], text: &mut [u8], count: &mut usiz
     ensures { λ r. ⌜ AfterReport (now (file .entry)) (record { text = now (text .entry); count = now (count .entry) }) (record { text = now (text .exit); count = now (count .exit) }) r ⌝ }
 {
     let answer = report_text::report(file, text);
-    let told = answers::of_report(answer, *count);
-    *count = told.count;
-    told.number
+    match answer {
+        ReportAnswer::Accepted(length) => {
+            *count = length;
+            0
+        }
+        ReportAnswer::Refused(number) => number,
+    }
 }

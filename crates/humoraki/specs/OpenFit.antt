@@ -1,0 +1,91 @@
+-- The library tells an open fit by the count 0. These hold after success of Corners:
+--
+--     answerOf, promise-below   what the library leaves is what the call below leaves with this answer, so drift's CornerTheorems are about it too
+--     open-iff                  the count is 0 exactly if the fit is open
+--     one-range-iff             and exactly if the segment then running has one range
+--
+-- Assumes nothing.
+use Prim.Native.Nat.{ℕ, _<_}
+use mathlib.Core.Path.{_≡_, refl, sym, ap, _∙_}
+use mathlib.Core.Logic.{_↔_}
+use mathlib.Core.List.{List, [], _∷_}
+use native.Mathlib.Omega.{arith}
+use lib.ListN.{length}
+use Rattle.definitions.specs.Ranges.{Range, Lists, rangesOf}
+use Rattle.definitions.specs.Lines.{Line}
+use Rattle.definitions.specs.Fit.{InCornerOrder, single, around}
+use Rattle.definitions.specs.Segments.{runningAfter}
+use Rattle.definitions.specs.Answers.{accepted, _>>=_}
+use Rattle.definitions.specs.Trial.{cornerRows}
+use Rattle.definitions.specs.Calls.{Fit, open-strip, bounded, fitOf, cornersCall}
+use Rattle.trial_laws.specs.CallLaws.{call-accepted, accepted-is}
+use Rattle.drift.specs.declared.CornersAnswer.{CornersAnswer}
+use Rattle.drift.specs.declared.CornersAnswer.the-variants.{Corners, Open}
+use Rattle.drift.specs.CornersPromise.{countOf, cornersIn, cornersMeaning, threeLengths, CornersPromise}
+use Rattle.drift.specs.CornerTheorems.{given-corners, given-count, given-ordered, open-one}
+use Rattle.humoraki.specs.Promises.{given, CornersLent, cornersAnswer, AfterCorners}
+use Rattle.humoraki.specs.Zero.{Accepted, corners-zero}
+
+-- the answer of the call below that tells of a fit
+unfoldable pub answerOf : Fit → CornersAnswer
+answerOf open-strip = Open
+answerOf (bounded ks) = Corners (length ks)
+
+answer-means : (fit : Fit) → cornersMeaning (answerOf fit) ≡ accepted (countOf fit)
+unfolding answerOf cornersMeaning countOf
+answer-means open-strip = refl
+answer-means (bounded ks) = refl
+
+-- a list in corner order is never empty
+order-some : {ks : List Line} → InCornerOrder ks → 0 < length ks
+order-some (single l) = omega arith
+order-some (around slow above fast below rising falling over under) = omega arith
+
+one-open : (rs : List Range) → length rs ≡ 1 → fitOf rs ≡ open-strip
+unfolding fitOf
+one-open [] e = refl
+one-open (r ∷ []) e = refl
+one-open (r ∷ s ∷ rs) e = absurd (omega arith)
+
+never-open : {A : Type 0} (ks : List Line) → open-strip ≡ bounded ks → A
+never-open ks e = let z : _≡_ {A = ℕ} 0 1 = cc in absurd (omega arith)
+
+module _ {k : ℕ} {ls : Lists} {old new : CornersLent} (after : AfterCorners k ls old new 0) where
+  abbrev segment : List Range
+  segment = runningAfter k (rangesOf ls)
+
+  pub promise-below : {fit : Fit} → cornersAnswer k ls old ≡ accepted fit → CornersPromise k ls (old .ps) (old .qs) (old .ds) (new .ps) (new .qs) (new .ds) (answerOf fit)
+  unfolding _>>=_
+  promise-below {fit} e = record { answer-is = answer-means fit ∙ sym (ap (λ x. x >>= λ f. accepted (countOf f)) e); ps-are = after .ps-are; qs-are = after .qs-are; ds-are = after .ds-are }
+
+  found : Accepted (cornersAnswer k ls old)
+  found = corners-zero after .0 refl
+
+  count-is : new .count ≡ length (cornersIn (found .0))
+  unfolding given
+  count-is = after .counted .count-is ∙ ap (λ x. given x (λ fit. length (cornersIn fit)) (old .count)) (found .1)
+
+  bounded-some : (ks : List Line) → cornersAnswer k ls old ≡ accepted (bounded ks) → 0 < length ks
+  unfolding answerOf
+  bounded-some ks e =
+      let below : CornersPromise k ls (old .ps) (old .qs) (old .ds) (new .ps) (new .qs) (new .ds) (Corners (length ks)) = promise-below e in
+      omega (arith, given-count below .0, ap length (given-corners below), order-some (given-ordered below))
+
+  bounded-more : (ks : List Line) → cornersAnswer k ls old ≡ accepted (bounded ks) → length segment ≡ 1 → open-strip ≡ bounded ks
+  unfolding cornersCall
+  bounded-more ks e one = sym (one-open segment one) ∙ call-accepted (cornerRows (threeLengths (old .ps) (old .qs) (old .ds)) k ls) (fitOf segment) (bounded ks) .0 e .1
+
+  by-fit : (fit : Fit) → cornersAnswer k ls old ≡ accepted fit → ((length (cornersIn fit) ≡ 0) ↔ (fit ≡ open-strip)) × ((length (cornersIn fit) ≡ 0) ↔ (length segment ≡ 1))
+  unfolding answerOf cornersIn
+  by-fit open-strip e = ((λ z. refl, λ z. refl), (λ z. open-one (promise-below e), λ z. refl))
+  by-fit (bounded ks) e =
+      let some = bounded-some ks e in
+      ((λ z. absurd (omega arith), λ y. never-open ks (sym y)), (λ z. absurd (omega arith), λ one. never-open ks (bounded-more ks e one)))
+
+  pub open-iff : (new .count ≡ 0) ↔ (cornersAnswer k ls old ≡ accepted open-strip)
+  open-iff =
+      let both = by-fit (found .0) (found .1) .0 in
+      (λ z. found .1 ∙ ap accepted (both .0 (sym count-is ∙ z)), λ e. count-is ∙ both .1 (accepted-is (sym (found .1) ∙ e)))
+
+  pub one-range-iff : (new .count ≡ 0) ↔ (length (runningAfter k (rangesOf ls)) ≡ 1)
+  one-range-iff = let both = by-fit (found .0) (found .1) .1 in (λ z. both .0 (sym count-is ∙ z), λ one. count-is ∙ both .1 one)
