@@ -1,22 +1,26 @@
 //! Where the calls are compared: the memory that is lent over and over, the random numbers and the tally.
 
+use crate::alteration::Alteration;
 use crate::answers::{self, borrowed};
 use crate::calls::corners::CornersCall;
 use crate::calls::read::ReadCall;
 use crate::calls::report::ReportCall;
 use crate::calls::segment::SegmentCall;
 use crate::calls::write::WriteCall;
+use crate::calls::{Returned, Told, Wrong, uses};
 use crate::difference::Outcome;
 use crate::line::Line;
 use crate::random::Random;
 use crate::room::Room;
 use crate::segments::{Fitter, Segment};
-use crate::tally::Tally;
+use crate::tally::{Call, Tally};
 use crate::trace::{Lists, Trace};
 
 pub struct Desk {
     pub random: Random,
     pub tally: Tally,
+    /// what is altered after a call, if the comparison is to be seen to fail
+    pub alteration: Option<Alteration>,
     read: ReadCall,
     write: WriteCall,
     segment: SegmentCall,
@@ -29,6 +33,7 @@ impl Desk {
         Desk {
             random: Random::new(seed),
             tally: Tally::default(),
+            alteration: None,
             read: ReadCall::new(),
             write: WriteCall::new(),
             segment: SegmentCall::new(),
@@ -38,23 +43,37 @@ impl Desk {
     }
 
     pub fn read(&mut self, file: &[u8], expected: Result<&Trace, u8>, room: &Room) -> Outcome {
-        self.read.compare(file, expected, room, &mut self.random, &mut self.tally)
+        let returned = self.read.call(file, expected, room, &mut self.random);
+        let judged = judged(returned, &mut self.alteration, &mut self.random, &mut self.tally);
+        judged.map_err(|wrong| wrong.in_call(Told::on_file(format!("Read, {room}"), file)))
     }
 
     pub fn write(&mut self, handed: (u16, i32, &Lists), expected: Result<&[u8], u8>, room: &Room) -> Outcome {
-        self.write.compare(handed, expected, room, &mut self.random, &mut self.tally)
+        let returned = self.write.call(handed, expected, room, &mut self.random);
+        let judged = judged(returned, &mut self.alteration, &mut self.random, &mut self.tally);
+        let (address, level, lists) = handed;
+        let call = || format!("Write, address {address}, level {level}, {room}");
+        judged.map_err(|wrong| wrong.in_call(Told::on_lists(call(), lists, address, level)))
     }
 
     pub fn segment(&mut self, level: i32, lists: &Lists, expected: Result<&[Segment], u8>, room: &Room) -> Outcome {
-        self.segment.compare((level, lists), expected, room, &mut self.random, &mut self.tally)
+        let returned = self.segment.call((level, lists), expected, room, &mut self.random);
+        let judged = judged(returned, &mut self.alteration, &mut self.random, &mut self.tally);
+        let call = || format!("Segment, level {level}, {room}");
+        judged.map_err(|wrong| wrong.in_call(Told::on_lists(call(), lists, 1, level)))
     }
 
     pub fn corners(&mut self, k: usize, lists: &Lists, expected: Result<&[Line], u8>, room: &Room) -> Outcome {
-        self.corners.compare((k, lists), expected, room, &mut self.random, &mut self.tally)
+        let returned = self.corners.call((k, lists), expected, room, &mut self.random);
+        let judged = judged(returned, &mut self.alteration, &mut self.random, &mut self.tally);
+        judged.map_err(|wrong| wrong.in_call(Told::on_lists(format!("Corners, k {k}, {room}"), lists, 1, 0)))
     }
 
     pub fn report(&mut self, file: &[u8], expected: &str, room: &Room) -> Outcome {
-        self.report.compare(file, expected, room, &mut self.random, &mut self.tally)
+        let returned = self.report.call(file, expected, room, &mut self.random);
+        let judged = judged(returned, &mut self.alteration, &mut self.random, &mut self.tally);
+        self.tally.add("reports of a refusal", expected.starts_with("refused") as usize);
+        judged.map_err(|wrong| wrong.in_call(Told::on_file(self.report.in_words(expected, room), file)))
     }
 
     /// Read and the report of a file that may be damaged; where it is accepted, Write gives its bytes back.
@@ -66,5 +85,35 @@ impl Desk {
             self.write((address, level, &Lists::of(&ranges)), Ok(file), &Room::enough())?;
         }
         Ok(())
+    }
+
+    /// Every alteration that a call can be followed by.
+    pub fn alterations(&mut self) -> Vec<Alteration> {
+        let calls = [
+            (Call::Read, self.read.lent()),
+            (Call::Write, self.write.lent()),
+            (Call::Segment, self.segment.lent()),
+            (Call::Corners, self.corners.lent()),
+            (Call::Report, self.report.lent()),
+        ];
+        calls.into_iter().flat_map(|(call, lent)| Alteration::all(call, &uses(lent))).collect()
+    }
+}
+
+/// Counts the answer of a call and judges all that it gave, after one thing of it was altered, if that is asked for.
+fn judged(
+    mut returned: Returned,
+    alteration: &mut Option<Alteration>,
+    random: &mut Random,
+    tally: &mut Tally,
+) -> Result<(), Wrong> {
+    tally.answer(returned.call, returned.expected);
+    match alteration {
+        Some(alteration) if alteration.make(&mut returned, random) => {
+            let judged = returned.judge();
+            alteration.judged(judged.is_err());
+            judged
+        }
+        _ => returned.judge(),
     }
 }

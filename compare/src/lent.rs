@@ -3,6 +3,7 @@
 //! A lent slice lies inside a longer list, whose entries on both sides the library was not lent. A second list says
 //! what the first must hold, so that after each call every entry is compared: filled, left as it was, or outside.
 
+use crate::alteration::Part;
 use crate::random::Random;
 use crate::room::Room;
 use std::fmt::Display;
@@ -13,8 +14,20 @@ const MARGIN: usize = 16;
 /// How many entries a difference shows at most before it, and of those to be filled after it.
 const SHOWN: usize = 10;
 
+/// What a call does with what it is lent.
+#[derive(Clone, Copy, PartialEq, Eq)]
+pub enum Use {
+    /// reads all of it
+    Read,
+    /// fills it up to a count
+    Filled,
+    /// sets the one number that it is
+    Set,
+}
+
 pub struct Lent<T> {
     name: &'static str,
+    usage: Use,
     held: Vec<T>,
     known: Vec<T>,
     from: usize,
@@ -25,6 +38,9 @@ pub struct Lent<T> {
 /// A number of any value, from any bits.
 pub trait Entry: Copy + PartialEq + Display {
     fn from_bits(bits: u64) -> Self;
+
+    /// The number with one bit turned.
+    fn altered(self, random: &mut Random) -> Self;
 }
 
 macro_rules! entry {
@@ -33,6 +49,10 @@ macro_rules! entry {
             fn from_bits(bits: u64) -> $number {
                 bits as $number
             }
+
+            fn altered(self, random: &mut Random) -> $number {
+                self ^ 1 << random.below(<$number>::BITS as usize)
+            }
         })*
     };
 }
@@ -40,15 +60,15 @@ macro_rules! entry {
 entry!(u8 u16 u32 i32 i64 u64 usize);
 
 impl<T: Entry> Lent<T> {
-    pub fn new(name: &'static str) -> Lent<T> {
-        Lent { name, held: Vec::new(), known: Vec::new(), from: 0, to: 0, filled: 0 }
+    pub fn new(name: &'static str, usage: Use) -> Lent<T> {
+        Lent { name, usage, held: Vec::new(), known: Vec::new(), from: 0, to: 0, filled: 0 }
     }
 
     /// Lends entries that the library is to read.
     pub fn lend_filled(&mut self, entries: &[T], random: &mut Random) {
         self.lend(entries.len(), 0, random);
         self.held[self.from..self.to].copy_from_slice(entries);
-        self.known[self.from..self.to].copy_from_slice(entries);
+        self.expect(entries);
     }
 
     pub fn entries(&self) -> &[T] {
@@ -77,7 +97,14 @@ pub trait Watched {
     /// `fresh` of them and a few behind, so that an entry that was to be filled does not have its value by chance.
     fn lend(&mut self, length: usize, fresh: usize, random: &mut Random);
 
+    fn name(&self) -> &'static str;
+
+    fn usage(&self) -> Use;
+
     fn len(&self) -> usize;
+
+    /// Turns a bit of some entry in a part of the list; whether there is one.
+    fn alter(&mut self, part: Part, random: &mut Random) -> bool;
 
     /// Nothing if all is as it must be; else where it is not, in words.
     fn difference(&self) -> Option<String>;
@@ -99,8 +126,32 @@ impl<T: Entry> Watched for Lent<T> {
         }
     }
 
+    fn name(&self) -> &'static str {
+        self.name
+    }
+
+    fn usage(&self) -> Use {
+        self.usage
+    }
+
     fn len(&self) -> usize {
         self.to - self.from
+    }
+
+    fn alter(&mut self, part: Part, random: &mut Random) -> bool {
+        let counted = self.from + self.filled;
+        let places: Vec<usize> = match part {
+            Part::Accepted => (self.from..counted).collect(),
+            Part::Past => (counted..self.to).collect(),
+            Part::Refused => (self.from..self.to).collect(),
+            Part::Outside => (0..self.from).chain(self.to..self.held.len()).collect(),
+        };
+        if places.is_empty() {
+            return false;
+        }
+        let place = random.pick(&places);
+        self.held[place] = self.held[place].altered(random);
+        true
     }
 
     fn difference(&self) -> Option<String> {

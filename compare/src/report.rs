@@ -19,7 +19,7 @@ pub fn accepted(trace: &Trace, segments: &[Segment]) -> String {
     text
 }
 
-fn segment_line(place: usize, segment: &Segment) -> String {
+pub fn segment_line(place: usize, segment: &Segment) -> String {
     let Segment { first, last, count, outlook } = segment;
     let start = format!("segment {place} from {first} to {last} ranges {count}");
     match outlook {

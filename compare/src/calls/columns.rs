@@ -1,6 +1,6 @@
 //! The columns of a segment's row, lent and watched: all of them are made from the library's own list.
 
-use crate::lent::{Lent, Watched};
+use crate::lent::{Lent, Use, Watched};
 use humoraki::lent::Columns;
 
 macro_rules! watch_columns {
@@ -19,10 +19,10 @@ macro_rules! watch_columns {
 
         impl LentColumns {
             pub fn new() -> LentColumns {
-                LentColumns { $($column: Lent::new(stringify!($column)),)* }
+                LentColumns { $($column: Lent::new(stringify!($column), Use::Filled),)* }
             }
 
-            pub fn to_lend(&mut self) -> [&mut dyn Watched; PLACES] {
+            pub fn lent(&mut self) -> [&mut dyn Watched; PLACES] {
                 [$(&mut self.$column),*]
             }
 
@@ -33,9 +33,12 @@ macro_rules! watch_columns {
             pub fn expect(&mut self, rows: &[Row]) {
                 $(self.$column.expect(&rows.iter().map(|row| row.$column).collect::<Vec<_>>());)*
             }
+        }
 
-            pub fn watched(&self) -> [&dyn Watched; PLACES] {
-                [$(&self.$column),*]
+        impl Row {
+            /// The numbers of the row, in the order of the columns.
+            pub fn numbers(&self) -> [i128; PLACES] {
+                [$(self.$column.into()),*]
             }
         }
     };

@@ -1,13 +1,12 @@
 //! Corners, compared.
 
 use super::lists::LentLists;
-use super::{Returned, Told, narrow, number, unless_short};
-use crate::difference::Outcome;
-use crate::lent::{Lent, Watched, lend_room};
+use super::{Returned, narrow, number, unless_short};
+use crate::lent::{Lent, Use, Watched, lend_room};
 use crate::line::Line;
 use crate::random::Random;
 use crate::room::Room;
-use crate::tally::{Call, Tally};
+use crate::tally::Call;
 use crate::trace::Lists;
 use humoraki::CORNER_ROOM;
 use humoraki::lent::{self, Lines};
@@ -27,42 +26,41 @@ impl CornersCall {
     pub fn new() -> CornersCall {
         CornersCall {
             lists: LentLists::new(),
-            ps: Lent::new("ps"),
-            qs: Lent::new("qs"),
-            ds: Lent::new("ds"),
-            count: Lent::new("count"),
+            ps: Lent::new("ps", Use::Filled),
+            qs: Lent::new("qs", Use::Filled),
+            ds: Lent::new("ds", Use::Filled),
+            count: Lent::new("count", Use::Set),
         }
     }
 
-    /// `expected` is the answer on slices that are long enough; no corners say that the fit is open.
-    pub fn compare(
+    /// Calls Corners; `expected` is the answer on slices that are long enough; no corners say that the fit is open.
+    pub fn call(
         &mut self,
         (k, lists): (usize, &Lists),
         expected: Result<&[Line], u8>,
         room: &Room,
         random: &mut Random,
-        tally: &mut Tally,
-    ) -> Outcome {
+    ) -> Returned<'_> {
         let fresh = (2 * lists.times.len()).min(CORNER_ROOM);
         self.lists.lend(lists, random);
         let short = lend_room(&mut [&mut self.ps, &mut self.qs, &mut self.ds], room, CORNER_ROOM, fresh, random);
         self.count.lend(1, 1, random);
         let expected = unless_short(short, expected);
-        let given = self.call(k);
+        let given = self.corners(k);
         if let Ok(corners) = expected {
             self.expect(corners);
         }
-        let [times, lows, highs] = self.lists.watched();
-        let returned = Returned {
-            call: Call::Corners,
-            expected: number(&expected),
-            given: number(&given),
-            lent: vec![times, lows, highs, &self.ps, &self.qs, &self.ds, &self.count],
-        };
-        returned.judge(tally, || Told::on_lists(format!("Corners, k {k}, {room}"), lists, 1, 0))
+        Returned { call: Call::Corners, expected: number(&expected), given: number(&given), lent: self.lent() }
     }
 
-    fn call(&mut self, k: usize) -> Result<(), u8> {
+    /// All that is lent to Corners.
+    pub fn lent(&mut self) -> Vec<&mut dyn Watched> {
+        let CornersCall { lists, ps, qs, ds, count } = self;
+        let [times, lows, highs] = lists.lent();
+        vec![times, lows, highs, ps, qs, ds, count]
+    }
+
+    fn corners(&mut self, k: usize) -> Result<(), u8> {
         let corners = Lines { ps: self.ps.entries_mut(), qs: self.qs.entries_mut(), ds: self.ds.entries_mut() };
         lent::corners(k, self.lists.ranges(), corners, self.count.entry_mut())
     }

@@ -1,6 +1,6 @@
 //! The lists that Write, Segment and Corners are lent to read.
 
-use crate::lent::{Lent, Watched};
+use crate::lent::{Lent, Use, Watched};
 use crate::random::Random;
 use crate::trace::Lists;
 use humoraki::lent::Ranges;
@@ -13,7 +13,11 @@ pub struct LentLists {
 
 impl LentLists {
     pub fn new() -> LentLists {
-        LentLists { times: Lent::new("times"), lows: Lent::new("lows"), highs: Lent::new("highs") }
+        LentLists {
+            times: Lent::new("times", Use::Read),
+            lows: Lent::new("lows", Use::Read),
+            highs: Lent::new("highs", Use::Read),
+        }
     }
 
     pub fn lend(&mut self, lists: &Lists, random: &mut Random) {
@@ -26,7 +30,8 @@ impl LentLists {
         Ranges { times: self.times.entries(), lows: self.lows.entries(), highs: self.highs.entries() }
     }
 
-    pub fn watched(&self) -> [&dyn Watched; 3] {
-        [&self.times, &self.lows, &self.highs]
+    pub fn lent(&mut self) -> [&mut dyn Watched; 3] {
+        let LentLists { times, lows, highs } = self;
+        [times, lows, highs]
     }
 }

@@ -8,10 +8,10 @@ pub mod report;
 pub mod segment;
 pub mod write;
 
-use crate::difference::{Difference, Outcome, answer};
+use crate::difference::{Difference, answer};
 use crate::file::{bytes, visible};
-use crate::lent::Watched;
-use crate::tally::{Call, Tally};
+use crate::lent::{Use, Watched};
+use crate::tally::Call;
 use crate::trace::{Lists, Trace};
 
 /// The numbers that a call returned and was to return, and everything that was lent to it.
@@ -19,7 +19,13 @@ pub struct Returned<'a> {
     pub call: Call,
     pub expected: u8,
     pub given: u8,
-    pub lent: Vec<&'a dyn Watched>,
+    pub lent: Vec<&'a mut dyn Watched>,
+}
+
+/// What was expected of a call and what it gave, in words, where the two differ.
+pub struct Wrong {
+    expected: String,
+    given: String,
 }
 
 /// A call in words, for a difference.
@@ -31,7 +37,7 @@ pub struct Told {
 
 impl Told {
     /// A call on a file, with what can be made out of it.
-    fn on_file(call: String, file: &[u8]) -> Told {
+    pub fn on_file(call: String, file: &[u8]) -> Told {
         let Trace { address, level, ranges } = visible(file);
         let bytes = file.len();
         let call = format!("{call}\n{bytes} bytes, address {address}, level {level}");
@@ -39,29 +45,35 @@ impl Told {
     }
 
     /// A call on lists; address and level are for the file only.
-    fn on_lists(call: String, lists: &Lists, address: u16, level: i32) -> Told {
+    pub fn on_lists(call: String, lists: &Lists, address: u16, level: i32) -> Told {
         let file = bytes(&Trace { address, level, ranges: lists.ranges() });
         Told { call, lists: lists.clone(), file }
     }
 }
 
 impl Returned<'_> {
-    /// Counts the answer; a difference if the number or anything lent is not as expected.
-    pub fn judge(self, tally: &mut Tally, told: impl FnOnce() -> Told) -> Outcome {
-        tally.answer(self.call, self.expected);
+    /// Whether the number and everything lent are as expected.
+    pub fn judge(&self) -> Result<(), Wrong> {
         let slices: Vec<String> = self.lent.iter().filter_map(|lent| lent.difference()).collect();
         if self.expected == self.given && slices.is_empty() {
             return Ok(());
         }
-        let told = told();
-        Err(Box::new(Difference {
-            call: told.call,
-            ranges: told.lists.in_words(),
-            expected: answer(self.expected),
-            given: format!("{}\n{}", answer(self.given), slices.concat().trim_end()),
-            file: told.file,
-        }))
+        let given = format!("{}\n{}", answer(self.given), slices.concat().trim_end());
+        Err(Wrong { expected: answer(self.expected), given })
     }
+}
+
+impl Wrong {
+    /// The difference that it is in this call.
+    pub fn in_call(self, told: Told) -> Box<Difference> {
+        let Wrong { expected, given } = self;
+        Box::new(Difference { call: told.call, ranges: told.lists.in_words(), expected, given, file: told.file })
+    }
+}
+
+/// What is lent by name, and what it is lent for.
+pub fn uses(lent: Vec<&mut dyn Watched>) -> Vec<(&'static str, Use)> {
+    lent.iter().map(|lent| (lent.name(), lent.usage())).collect()
 }
 
 /// What is expected, unless a lent slice is too short.

@@ -1,12 +1,11 @@
 //! Read, compared.
 
-use super::{Returned, Told, number, unless_short};
-use crate::difference::Outcome;
+use super::{Returned, number, unless_short};
 use crate::file::visible;
-use crate::lent::{Lent, Watched, lend_room};
+use crate::lent::{Lent, Use, Watched, lend_room};
 use crate::random::Random;
 use crate::room::Room;
-use crate::tally::{Call, Tally};
+use crate::tally::Call;
 use crate::trace::{Lists, Trace};
 use humoraki::{READ_ROOM, lent};
 
@@ -26,25 +25,24 @@ pub struct ReadCall {
 impl ReadCall {
     pub fn new() -> ReadCall {
         ReadCall {
-            file: Lent::new("file"),
-            times: Lent::new("times"),
-            lows: Lent::new("lows"),
-            highs: Lent::new("highs"),
-            address: Lent::new("address"),
-            level: Lent::new("level"),
-            ranges: Lent::new("ranges"),
+            file: Lent::new("file", Use::Read),
+            times: Lent::new("times", Use::Filled),
+            lows: Lent::new("lows", Use::Filled),
+            highs: Lent::new("highs", Use::Filled),
+            address: Lent::new("address", Use::Set),
+            level: Lent::new("level", Use::Set),
+            ranges: Lent::new("ranges", Use::Set),
         }
     }
 
-    /// `expected` is the answer on slices that are long enough.
-    pub fn compare(
+    /// Calls Read; `expected` is the answer on slices that are long enough.
+    pub fn call(
         &mut self,
         file: &[u8],
         expected: Result<&Trace, u8>,
         room: &Room,
         random: &mut Random,
-        tally: &mut Tally,
-    ) -> Outcome {
+    ) -> Returned<'_> {
         let short = self.lend(file, room, random);
         let expected = unless_short(short, expected);
         let given = lent::read(
@@ -59,13 +57,13 @@ impl ReadCall {
         if let Ok(trace) = expected {
             self.expect(trace);
         }
-        let returned = Returned {
-            call: Call::Read,
-            expected: number(&expected),
-            given: number(&given),
-            lent: vec![&self.file, &self.times, &self.lows, &self.highs, &self.address, &self.level, &self.ranges],
-        };
-        returned.judge(tally, || Told::on_file(format!("Read, {room}"), file))
+        Returned { call: Call::Read, expected: number(&expected), given: number(&given), lent: self.lent() }
+    }
+
+    /// All that is lent to Read.
+    pub fn lent(&mut self) -> Vec<&mut dyn Watched> {
+        let ReadCall { file, times, lows, highs, address, level, ranges } = self;
+        vec![file, times, lows, highs, address, level, ranges]
     }
 
     /// Whether a slice is too short.

@@ -2,15 +2,14 @@
 
 use super::columns::{LentColumns, Row};
 use super::lists::LentLists;
-use super::{Returned, Told, narrow, number, unless_short};
-use crate::difference::Outcome;
-use crate::lent::{Lent, Watched, lend_room};
+use super::{Returned, narrow, number, unless_short};
+use crate::lent::{Lent, Use, Watched, lend_room};
 use crate::line::Line;
 use crate::outlook::Outlook;
 use crate::random::Random;
 use crate::room::Room;
 use crate::segments::Segment;
-use crate::tally::{Call, Tally};
+use crate::tally::Call;
 use crate::trace::Lists;
 use humoraki::{NONE, SEGMENT_ROOM, lent};
 
@@ -22,21 +21,20 @@ pub struct SegmentCall {
 
 impl SegmentCall {
     pub fn new() -> SegmentCall {
-        SegmentCall { lists: LentLists::new(), columns: LentColumns::new(), count: Lent::new("count") }
+        SegmentCall { lists: LentLists::new(), columns: LentColumns::new(), count: Lent::new("count", Use::Set) }
     }
 
-    /// `expected` is the answer on slices that are long enough.
-    pub fn compare(
+    /// Calls Segment; `expected` is the answer on slices that are long enough.
+    pub fn call(
         &mut self,
         (level, lists): (i32, &Lists),
         expected: Result<&[Segment], u8>,
         room: &Room,
         random: &mut Random,
-        tally: &mut Tally,
-    ) -> Outcome {
+    ) -> Returned<'_> {
         let fresh = lists.times.len().min(SEGMENT_ROOM);
         self.lists.lend(lists, random);
-        let short = lend_room(&mut self.columns.to_lend(), room, SEGMENT_ROOM, fresh, random);
+        let short = lend_room(&mut self.columns.lent(), room, SEGMENT_ROOM, fresh, random);
         self.count.lend(1, 1, random);
         let expected = unless_short(short, expected);
         let given = lent::segment(level, self.lists.ranges(), self.columns.columns(), self.count.entry_mut());
@@ -44,20 +42,19 @@ impl SegmentCall {
             self.columns.expect(&segments.iter().map(row).collect::<Vec<_>>());
             self.count.expect(&[segments.len()]);
         }
-        let count: [&dyn Watched; 1] = [&self.count];
-        let returned = Returned {
-            call: Call::Segment,
-            expected: number(&expected),
-            given: number(&given),
-            lent: self.lists.watched().into_iter().chain(self.columns.watched()).chain(count).collect(),
-        };
-        let call = || format!("Segment, level {level}, {room}");
-        returned.judge(tally, || Told::on_lists(call(), lists, 1, level))
+        Returned { call: Call::Segment, expected: number(&expected), given: number(&given), lent: self.lent() }
+    }
+
+    /// All that is lent to Segment.
+    pub fn lent(&mut self) -> Vec<&mut dyn Watched> {
+        let SegmentCall { lists, columns, count } = self;
+        let count: [&mut dyn Watched; 1] = [count];
+        lists.lent().into_iter().chain(columns.lent()).chain(count).collect()
     }
 }
 
 /// An open segment has 0 for its lines and times.
-fn row(segment: &Segment) -> Row {
+pub fn row(segment: &Segment) -> Row {
     let none = Line { p: 0, q: 0, d: 0 };
     let (slow, fast, some, all) = match segment.outlook {
         Outlook::Open => (none, none, 0, 0),

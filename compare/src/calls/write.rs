@@ -1,12 +1,11 @@
 //! Write, compared.
 
 use super::lists::LentLists;
-use super::{Returned, Told, number, unless_short};
-use crate::difference::Outcome;
-use crate::lent::{Lent, Watched, lend_room};
+use super::{Returned, number, unless_short};
+use crate::lent::{Lent, Use, Watched, lend_room};
 use crate::random::Random;
 use crate::room::Room;
-use crate::tally::{Call, Tally};
+use crate::tally::Call;
 use crate::trace::Lists;
 use humoraki::{WRITE_ROOM, lent};
 
@@ -21,18 +20,21 @@ pub struct WriteCall {
 
 impl WriteCall {
     pub fn new() -> WriteCall {
-        WriteCall { lists: LentLists::new(), file: Lent::new("file"), count: Lent::new("count") }
+        WriteCall {
+            lists: LentLists::new(),
+            file: Lent::new("file", Use::Filled),
+            count: Lent::new("count", Use::Set),
+        }
     }
 
-    /// `expected` is the answer on a slice that is long enough.
-    pub fn compare(
+    /// Calls Write; `expected` is the answer on a slice that is long enough.
+    pub fn call(
         &mut self,
         (address, level, lists): (u16, i32, &Lists),
         expected: Result<&[u8], u8>,
         room: &Room,
         random: &mut Random,
-        tally: &mut Tally,
-    ) -> Outcome {
+    ) -> Returned<'_> {
         let fresh = expected.map_or(0, <[u8]>::len);
         self.lists.lend(lists, random);
         let short = lend_room(&mut [&mut self.file], room, WRITE_ROOM, fresh, random);
@@ -43,14 +45,13 @@ impl WriteCall {
             self.file.expect(bytes);
             self.count.expect(&[bytes.len()]);
         }
-        let [times, lows, highs] = self.lists.watched();
-        let returned = Returned {
-            call: Call::Write,
-            expected: number(&expected),
-            given: number(&given),
-            lent: vec![times, lows, highs, &self.file, &self.count],
-        };
-        let call = || format!("Write, address {address}, level {level}, {room}");
-        returned.judge(tally, || Told::on_lists(call(), lists, address, level))
+        Returned { call: Call::Write, expected: number(&expected), given: number(&given), lent: self.lent() }
+    }
+
+    /// All that is lent to Write.
+    pub fn lent(&mut self) -> Vec<&mut dyn Watched> {
+        let WriteCall { lists, file, count } = self;
+        let [times, lows, highs] = lists.lent();
+        vec![times, lows, highs, file, count]
     }
 }

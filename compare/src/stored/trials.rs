@@ -1,0 +1,45 @@
+//! Trials as lines of text: numbers in four lists, parted by `|`: parameters, times, lows and highs. Of a number its
+//! last 32 bits count, so that 2147483648 among the lows is the least number that a caller has.
+
+use crate::trace::Lists;
+
+pub struct Trial {
+    parameters: Vec<u32>,
+    pub lists: Lists,
+}
+
+impl Trial {
+    /// Nothing if the line is not four lists of numbers.
+    pub fn from_line(line: &str) -> Option<Trial> {
+        let lists = line.split('|').map(numbers).collect::<Option<Vec<_>>>()?;
+        let [parameters, times, lows, highs] = lists.try_into().ok()?;
+        Some(Trial { parameters, lists: Lists { times, lows: signed(lows), highs: signed(highs) } })
+    }
+
+    /// The first parameter as a place, if there is one.
+    pub fn first_place(&self) -> Option<usize> {
+        self.parameters.first().map(|number| *number as usize)
+    }
+
+    /// The first parameter as a level; 0 without one.
+    pub fn level(&self) -> i32 {
+        self.parameters.first().map_or(0, |number| *number as i32)
+    }
+
+    /// What a call answers that fills so many slices: the second parameter is the place of one that is too short.
+    pub fn unless_short<T>(&self, places: usize, answer: Result<T, u8>) -> Result<T, u8> {
+        match self.parameters.get(1) {
+            Some(short) if (*short as usize) < places => Err(8),
+            _ => answer,
+        }
+    }
+}
+
+fn numbers(list: &str) -> Option<Vec<u32>> {
+    let number = |word: &str| word.parse().ok().map(|number: i64| number as u32);
+    list.split_whitespace().map(number).collect()
+}
+
+fn signed(numbers: Vec<u32>) -> Vec<i32> {
+    numbers.into_iter().map(|number| number as i32).collect()
+}
