@@ -1,7 +1,8 @@
 // Standard input, read to its end.
+ghost use mathlib.Core.Path.{_≡_};
 ghost use Prim.Native.Nat.{_≤_};
 ghost use lib.ListN.{length};
-ghost use Rattle.report.specs.Inputs.{GotIn, InputIn};
+ghost use Rattle.report.specs.Inputs.{gotOf, GotIn, InputIn};
 use libc::EINTR;
 use libc::read;
 use os::errno;
@@ -14,25 +15,32 @@ pub enum Got {
     Failed,
 }
 
+// What a read says that gave this answer, so many bytes, and this error number. A read that fails is not the end.
+fn got_of(answer: isize, bytes: usize, error: i32) -> Got
+    ensures { λ r. ⌜ r ≡ gotOf answer bytes error ⌝ }
+{
+    if answer < 0 {
+        if error == EINTR {
+            Got::Interrupted
+        } else {
+            Got::Failed
+        }
+    } else if bytes == 0 {
+        Got::End
+    } else {
+        Got::Bytes(bytes)
+    }
+}
+
 // One read, to the bytes of the buffer from `at` on.
 fn read_at(fd: i32, buffer: &mut [u8], at: usize) -> Got
     requires { ⌜ at ≤ length (now buffer) ⌝ }
     ensures { λ r. ⌜ GotIn at (length (now (buffer .exit))) r ⌝ }
 {
     let answer = read(fd, &mut buffer[at..]);
-    if answer < 0 {
-        return if errno() == EINTR {
-            Got::Interrupted
-        } else {
-            Got::Failed
-        };
-    }
+    let error = errno();
     let bytes = io::count(answer, &buffer[at..]);
-    if bytes == 0 {
-        Got::End
-    } else {
-        Got::Bytes(bytes)
-    }
+    got_of(answer, bytes, error)
 }
 
 // All that was read, by its number of bytes, or that it could not be read.
