@@ -10,7 +10,7 @@
 #include <stdio.h>
 #include <stdlib.h>
 
-/* The largest file has 61,451 bytes, so bytes after these cannot matter. */
+/* The first 61,455 bytes decide, so bytes after these cannot matter. */
 #define FILE_ROOM 65536
 
 /* A trace: the first `ranges` entries of each list. */
@@ -18,7 +18,7 @@ static struct {
     uint32_t times[HUMORAKI_READ_ROOM];
     int32_t lows[HUMORAKI_READ_ROOM];
     int32_t highs[HUMORAKI_READ_ROOM];
-    uint16_t address;
+    uint32_t address;
     int32_t level;
     size_t ranges;
 } trace;

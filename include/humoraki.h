@@ -8,8 +8,8 @@
  *
  *    1   the file ends before a needed field, or inside a field
  *    2   the tag is not the one due
- *    3   the length is not the tag's
- *    4   address, level, low or high outside its span
+ *    3   the length is none that the tag may have
+ *    4   address, level, low or high outside its span, or in a file an address below 256 in two bytes
  *    5   low above high
  *    6   time not above the one before
  *    7   a 4,097th range
@@ -38,7 +38,7 @@ extern "C" {
 
 /* The least number of entries in each slice that a function fills. */
 #define HUMORAKI_READ_ROOM 4096     /* times, lows, highs */
-#define HUMORAKI_WRITE_ROOM 61451   /* the bytes of a trace file */
+#define HUMORAKI_WRITE_ROOM 61452   /* the bytes of a trace file */
 #define HUMORAKI_SEGMENT_ROOM 2048  /* each column of a segment's row */
 #define HUMORAKI_CORNER_ROOM 8192   /* ps, qs, ds */
 #define HUMORAKI_REPORT_ROOM 524544 /* the text of a report: 256 bytes for each of 2,049 lines */
@@ -71,30 +71,31 @@ extern "C" {
  * times    filled with the time of each range
  * lows     filled with the low of each range
  * highs    filled with the high of each range
- * address  set to the detector's address, 1 to 255
+ * address  set to the detector's address, 1 to 65,535: up to 255 the file has it in one byte, above in two
  * level    set to the service level
  * ranges   set to the number of ranges
  *
- * Refusals: 8, then field by field 1 to 7.
+ * Refusals: 8, then field by field 1, 2, 3, 7, 1 for a body cut short, 4, 5, 6.
  */
 uint8_t humoraki_read(const uint8_t *file, size_t file_len,
                       uint32_t *times, size_t times_len,
                       int32_t *lows, size_t lows_len,
                       int32_t *highs, size_t highs_len,
-                      uint16_t *address, int32_t *level, size_t *ranges);
+                      uint32_t *address, int32_t *level, size_t *ranges);
 
 /*
  * Writes a trace file.
  *
- * address             the detector's address, 1 to 255
+ * address             the detector's address, 1 to 65,535; the file gets it in one byte up to 255, above in two.
+ *                     None is cut to fit: 65,543, whose last 16 bits are 7, is refused with 4
  * level               the service level, -268,435,456 to 268,435,456
  * times, lows, highs  the ranges, in lists of one length
- * file                filled with the file's bytes
+ * file                filled with the file's bytes, at most 61,452
  * count               set to the number of bytes
  *
  * Refusals: 8, 10, 7, address and level 4, then range by range 4, 5, 6.
  */
-uint8_t humoraki_write(uint16_t address, int32_t level,
+uint8_t humoraki_write(uint32_t address, int32_t level,
                        const uint32_t *times, size_t times_len,
                        const int32_t *lows, size_t lows_len,
                        const int32_t *highs, size_t highs_len,

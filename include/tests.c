@@ -1,6 +1,7 @@
 /*
  * Tries from C what humoraki.h says of memory that is lent: a pointer beside a length of 0 may be null, and what a
- * function fills or sets is written on success and left alone else. Prints what is not so, and then ends with 1.
+ * function fills or sets is written on success and left alone else. Then writes and reads back the addresses at the
+ * ends of their span, and hands in numbers past it. Prints what is not so, and then ends with 1.
  */
 #include "humoraki.h"
 
@@ -17,7 +18,7 @@ static struct {
     uint64_t somes[HUMORAKI_SEGMENT_ROOM], alls[HUMORAKI_SEGMENT_ROOM];
     int64_t ps[HUMORAKI_CORNER_ROOM], qs[HUMORAKI_CORNER_ROOM], ds[HUMORAKI_CORNER_ROOM];
     uint8_t text[HUMORAKI_REPORT_ROOM];
-    uint16_t address;
+    uint32_t address;
     int32_t level;
     size_t ranges, count;
 } lent;
@@ -91,6 +92,37 @@ static int kept(void) {
     return bytes[0] == MARK && memcmp(bytes, bytes + 1, sizeof lent - 1) == 0;
 }
 
+/* Addresses, with the number of Write and how many bytes the file has for a trace without ranges. */
+static const struct {
+    uint32_t address;
+    uint8_t number;
+    size_t count;
+} addresses[] = {
+    {0, 4, 0}, {1, 0, 11}, {255, 0, 11}, {256, 0, 12}, {65535, 0, 12}, {65536, 4, 0}, {65543, 4, 0}, {UINT32_MAX, 4, 0},
+};
+
+/* Writes a file for each address and reads it back. */
+static void try_addresses(void) {
+    for (size_t at = 0; at < sizeof addresses / sizeof addresses[0]; at++) {
+        uint32_t address = addresses[at].address;
+        int missing = -1;
+        mark();
+        uint8_t number = humoraki_write(address, 20, EMPTY, EMPTY, EMPTY, SLICE(0, file), &lent.count);
+        if (number != addresses[at].number) {
+            fprintf(stderr, "address %lu: ", (unsigned long)address);
+        }
+        expect(number == addresses[at].number, "write", "another number for an address");
+        if (addresses[at].number != 0) {
+            expect(kept(), "write", "something is changed although the address is refused");
+            continue;
+        }
+        expect(lent.count == addresses[at].count, "write", "another count for an address");
+        number = humoraki_read(lent.file, lent.count, SLICE(0, times), SLICE(1, lows), SLICE(2, highs),
+                               &lent.address, &lent.level, &lent.ranges);
+        expect(number == 0 && lent.address == address, "read", "an address does not come back");
+    }
+}
+
 int main(void) {
     for (size_t at = 0; at < sizeof calls / sizeof calls[0]; at++) {
         const char *name = calls[at].name;
@@ -106,5 +138,6 @@ int main(void) {
         else
             expect(kept(), name, "something is changed by a refusal");
     }
+    try_addresses();
     return failures == 0 ? 0 : 1;
 }

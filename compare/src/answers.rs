@@ -13,7 +13,7 @@ pub fn read(file: &[u8]) -> Result<Trace, u8> {
     file::read(file)
 }
 
-pub fn write(address: u16, level: i32, lists: &Lists) -> Result<Vec<u8>, u8> {
+pub fn write(address: u32, level: i32, lists: &Lists) -> Result<Vec<u8>, u8> {
     trial::lengths(lists)?;
     trial::address(address)?;
     trial::value(level)?;

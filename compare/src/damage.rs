@@ -12,7 +12,9 @@ type ByteDamage = fn(&mut Vec<u8>, &mut Random);
 
 const OF_VALUES: [ValueDamage; 6] =
     [zero_address, level_outside, low_outside, high_outside, low_above_high, time_not_rising];
-const OF_BYTES: [ByteDamage; 10] = [
+const OF_BYTES: [ByteDamage; 12] = [
+    address_widened,
+    address_length_turned,
     other_tag,
     other_length,
     field_removed,
@@ -80,6 +82,27 @@ fn time_not_rising(trace: &mut Trace, random: &mut Random) {
     }
 }
 
+/// Puts an address below 256 into two bytes.
+pub fn address_widened(file: &mut Vec<u8>, random: &mut Random) {
+    let end = file.len().min(field_start(file, 1));
+    let any = random.next() as u8;
+    let low = random.pick(&[0, 1, 7, 255, any]);
+    file.splice(..end, [1, 0, 2, 0, low]);
+}
+
+/// Says one byte of an address that has two, or two of one that has one; what follows moves, or does not.
+fn address_length_turned(file: &mut Vec<u8>, random: &mut Random) {
+    if file.len() > 3 {
+        let wide = file[2] == 2;
+        file[2] = if wide { 1 } else { 2 };
+        match (wide, random.one_in(2)) {
+            (true, true) => drop(file.remove(3)),
+            (false, true) => file.insert(3, random.pick(&[0, 1, 255])),
+            _ => {}
+        }
+    }
+}
+
 fn other_tag(file: &mut Vec<u8>, random: &mut Random) {
     if let Some(start) = some_field(file, random) {
         file[start] = random.pick(&[0, 1, 2, 3, 4, 255]);
@@ -88,21 +111,21 @@ fn other_tag(file: &mut Vec<u8>, random: &mut Random) {
 
 fn other_length(file: &mut Vec<u8>, random: &mut Random) {
     if let Some(start) = some_field(file, random).filter(|start| start + 3 <= file.len()) {
-        let length: u16 = random.pick(&[0, 1, 3, 4, 5, 11, 12, 13, 256, 257, 3072, 65_535]);
+        let length: u16 = random.pick(&[0, 1, 2, 3, 4, 5, 11, 12, 13, 256, 257, 258, 512, 3072, 65_535]);
         file[start + 1..start + 3].copy_from_slice(&length.to_be_bytes());
     }
 }
 
 fn field_removed(file: &mut Vec<u8>, random: &mut Random) {
     if let Some(start) = some_field(file, random) {
-        let end = file.len().min(field_start(field_at(start) + 1));
+        let end = file.len().min(field_start(file, field_at(file, start) + 1));
         file.drain(start..end);
     }
 }
 
 fn field_doubled(file: &mut Vec<u8>, random: &mut Random) {
     if let Some(start) = some_field(file, random) {
-        let end = file.len().min(field_start(field_at(start) + 1));
+        let end = file.len().min(field_start(file, field_at(file, start) + 1));
         let field = file[start..end].to_vec();
         file.splice(end..end, field);
     }
@@ -150,10 +173,10 @@ fn some_place(count: usize, random: &mut Random) -> Option<usize> {
 
 /// Where one of the fields that are due begins.
 fn some_field(file: &[u8], random: &mut Random) -> Option<usize> {
-    let fields = (0..).take_while(|&field| field_start(field) < file.len()).count();
-    some_place(fields, random).map(field_start)
+    let fields = (0..).take_while(|&field| field_start(file, field) < file.len()).count();
+    some_place(fields, random).map(|field| field_start(file, field))
 }
 
-fn field_at(start: usize) -> usize {
-    (0..).take_while(|&field| field_start(field) < start).count()
+fn field_at(file: &[u8], start: usize) -> usize {
+    (0..).take_while(|&field| field_start(file, field) < start).count()
 }

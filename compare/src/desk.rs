@@ -48,7 +48,7 @@ impl Desk {
         judged.map_err(|wrong| wrong.in_call(Told::on_file(format!("Read, {room}"), file)))
     }
 
-    pub fn write(&mut self, handed: (u16, i32, &Lists), expected: Result<&[u8], u8>, room: &Room) -> Outcome {
+    pub fn write(&mut self, handed: (u32, i32, &Lists), expected: Result<&[u8], u8>, room: &Room) -> Outcome {
         let returned = self.write.call(handed, expected, room, &mut self.random);
         let judged = judged(returned, &mut self.alteration, &mut self.random, &mut self.tally);
         let (address, level, lists) = handed;

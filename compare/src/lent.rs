@@ -57,7 +57,7 @@ macro_rules! entry {
     };
 }
 
-entry!(u8 u16 u32 i32 i64 u64 usize);
+entry!(u8 u32 i32 i64 u64 usize);
 
 impl<T: Entry> Lent<T> {
     pub fn new(name: &'static str, usage: Use) -> Lent<T> {

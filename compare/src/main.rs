@@ -85,6 +85,7 @@ fn compare(seed: u64, traces: usize) -> ExitCode {
 fn all_rounds(desk: &mut Desk, traces: usize) -> Outcome {
     rounds::samples::compare(desk)?;
     rounds::small_traces::compare(desk, traces)?;
+    rounds::addresses::compare(desk)?;
     rounds::damaged_files::compare(desk, traces)?;
     rounds::field_faults::compare(desk)?;
     rounds::list_faults::compare(desk)?;

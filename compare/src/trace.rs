@@ -4,7 +4,7 @@ pub const LAST_TIME: u32 = 4_294_967_295;
 pub const LEAST_VALUE: i32 = -268_435_456;
 pub const LARGEST_VALUE: i32 = 268_435_456;
 pub const MOST_RANGES: usize = 4096;
-pub const LARGEST_ADDRESS: u16 = 255;
+pub const LARGEST_ADDRESS: u32 = 65_535;
 
 #[derive(Clone, Copy, PartialEq, Eq, Debug)]
 pub struct Range {
@@ -15,7 +15,7 @@ pub struct Range {
 
 #[derive(Clone, PartialEq, Eq, Debug)]
 pub struct Trace {
-    pub address: u16,
+    pub address: u32,
     pub level: i32,
     pub ranges: Vec<Range>,
 }

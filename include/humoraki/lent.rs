@@ -45,15 +45,16 @@ pub fn read(
     times: &mut [u32],
     lows: &mut [i32],
     highs: &mut [i32],
-    address: &mut u16,
+    address: &mut u32,
     level: &mut i32,
     ranges: &mut usize,
 ) -> Result<(), u8> {
     call!(humoraki_read(; file; times, lows, highs; address, level, ranges))
 }
 
-/// Fills a slice with the bytes of a trace's file, and sets their count.
-pub fn write(address: u16, level: i32, ranges: Ranges, file: &mut [u8], count: &mut usize) -> Result<(), u8> {
+/// Fills a slice with the bytes of a trace's file, and sets their count. An address is 1 to 65,535; any other number is
+/// refused with 4.
+pub fn write(address: u32, level: i32, ranges: Ranges, file: &mut [u8], count: &mut usize) -> Result<(), u8> {
     call!(humoraki_write(address, level; ranges.times, ranges.lows, ranges.highs; file; count))
 }
 

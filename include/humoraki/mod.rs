@@ -24,7 +24,7 @@ use self::lent::{Lines, Ranges, Table};
 pub const READ_ROOM: usize = 4096;
 
 /// The least length of the file that `lent::write` fills.
-pub const WRITE_ROOM: usize = 61_451;
+pub const WRITE_ROOM: usize = 61_452;
 
 /// The least length of each column that `lent::segment` fills.
 pub const SEGMENT_ROOM: usize = 2048;
@@ -38,10 +38,10 @@ pub const REPORT_ROOM: usize = 524_544;
 /// Stands for a time that there is not, in the columns `somes` and `alls`.
 pub const NONE: u64 = 4_294_967_296;
 
-/// A trace: a detector's address, its service level and its ranges, in three lists of one length.
+/// A trace: a detector's address, 1 to 65,535, its service level and its ranges, in three lists of one length.
 #[derive(Clone, Debug, PartialEq, Eq)]
 pub struct Trace {
-    pub address: u16,
+    pub address: u32,
     pub level: i32,
     pub times: Vec<u32>,
     pub lows: Vec<i32>,
@@ -83,8 +83,8 @@ pub fn meaning(refusal: u8) -> &'static str {
     match refusal {
         1 => "the file ends before a needed field, or inside a field",
         2 => "the tag is not the one due",
-        3 => "the length is not the tag's",
-        4 => "address, level, low or high outside its span",
+        3 => "the length is none that the tag may have",
+        4 => "address, level, low or high outside its span, or in a file an address below 256 in two bytes",
         5 => "low above high",
         6 => "time not above the one before",
         7 => "a 4,097th range",
@@ -108,7 +108,8 @@ pub fn read(file: &[u8]) -> Result<Trace, u8> {
     Ok(Trace { address, level, times, lows, highs })
 }
 
-/// The bytes of a trace's file.
+/// The bytes of a trace's file. An address up to 255 takes one of them, a larger one two; one past 65,535 is refused
+/// with 4 and not cut.
 pub fn write(trace: &Trace) -> Result<Vec<u8>, u8> {
     let mut file = vec![0; WRITE_ROOM];
     let mut count = 0;

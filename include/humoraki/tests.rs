@@ -28,6 +28,73 @@ fn a_written_trace_reads_back() {
     assert_eq!(read(&file[..85]), Err(1));
 }
 
+/// The address field of the file that Write makes.
+fn address_field(address: u32) -> Result<Vec<u8>, u8> {
+    let file = write(&Trace { address, ..example() })?;
+    Ok(file[..file.len() - 82].to_vec())
+}
+
+#[test]
+fn a_wide_address_has_two_bytes() {
+    assert_eq!(address_field(1), Ok(vec![1, 0, 1, 1]));
+    assert_eq!(address_field(255), Ok(vec![1, 0, 1, 255]));
+    assert_eq!(address_field(256), Ok(vec![1, 0, 2, 1, 0]));
+    assert_eq!(address_field(65_535), Ok(vec![1, 0, 2, 255, 255]));
+}
+
+#[test]
+fn an_address_is_refused_and_not_cut() {
+    for address in [0, 65_536, 65_543, u32::MAX] {
+        assert_eq!(address_field(address), Err(4));
+    }
+}
+
+#[test]
+fn a_wide_address_reads_back() {
+    for address in [1, 255, 256, 65_535] {
+        let trace = Trace { address, ..example() };
+        let file = write(&trace).unwrap();
+        assert_eq!(read(&file), Ok(trace));
+        let first = format!("detector {address} level 20 ranges 5 segments 2\n");
+        assert!(report(&file).starts_with(first.as_bytes()));
+    }
+}
+
+/// What is told of a file without ranges whose address field has this length and this body.
+fn told(length: u16, body: &[u8]) -> Result<u32, u8> {
+    let file = [&[1], &length.to_be_bytes()[..], body, &[2, 0, 4, 0, 0, 0, 20]].concat();
+    read(&file).map(|trace| trace.address)
+}
+
+#[test]
+fn an_address_has_one_form() {
+    assert_eq!(told(1, &[255]), Ok(255));
+    assert_eq!(told(2, &[1, 0]), Ok(256));
+    for body in [&[0][..], &[0, 0], &[0, 7], &[0, 255]] {
+        assert_eq!(told(body.len() as u16, body), Err(4));
+    }
+}
+
+#[test]
+fn the_length_of_an_address_is_tried_before_its_body() {
+    for length in [0, 3, 257, 65_535] {
+        assert_eq!(told(length, &[1]), Err(3));
+    }
+    assert_eq!(read(&[1, 0, 3]), Err(3));
+    assert_eq!(read(&[1, 0, 2, 1]), Err(1));
+}
+
+#[test]
+fn the_largest_file_fills_its_room() {
+    let times: Vec<u32> = (0..4096).collect();
+    let trace = Trace { address: 65_535, level: 0, lows: vec![0; 4096], highs: vec![0; 4096], times };
+    assert_eq!(write(&trace).map(|file| file.len()), Ok(WRITE_ROOM));
+    let mut file = vec![77; WRITE_ROOM - 1];
+    let mut count = 77;
+    assert_eq!(lent::write(7, 20, example().ranges(), &mut file, &mut count), Err(8));
+    assert_eq!((file, count), (vec![77; WRITE_ROOM - 1], 77));
+}
+
 #[test]
 fn segments_have_their_lines_and_times() {
     let segments = segment(&example()).unwrap();

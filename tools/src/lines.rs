@@ -14,7 +14,7 @@ pub struct Range {
 
 /// What the lines of a trace say.
 pub struct Lines {
-    pub address: u16,
+    pub address: u32,
     pub level: i32,
     pub ranges: Vec<Range>,
 }
@@ -33,7 +33,7 @@ const fn value(name: &'static str) -> Span {
     Span { name, least: -268_435_456, greatest: 268_435_456 }
 }
 
-const ADDRESS: Span = Span { name: "address", least: 1, greatest: 255 };
+const ADDRESS: Span = Span { name: "address", least: 1, greatest: 65_535 };
 const TIME: Span = Span { name: "time", least: 0, greatest: 4_294_967_295 };
 const LEVEL: Span = value("level");
 const LOW: Span = value("low");
@@ -64,13 +64,13 @@ fn words(line: &str) -> Vec<&str> {
     told.split_whitespace().collect()
 }
 
-fn parse_first(words: &[&str]) -> Result<(u16, i32), String> {
+fn parse_first(words: &[&str]) -> Result<(u32, i32), String> {
     let ["detector", address, "level", level] = words else {
         let found = words.join(" ");
         return Err(format!("found '{found}'; expected first: {FIRST_LINE}"));
     };
     // The spans of address and level lie within their types, as do those of a range below.
-    Ok((ADDRESS.parse(address)? as u16, LEVEL.parse(level)? as i32))
+    Ok((ADDRESS.parse(address)? as u32, LEVEL.parse(level)? as i32))
 }
 
 /// The range that a line's words give, after the ranges before it.

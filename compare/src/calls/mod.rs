@@ -45,7 +45,7 @@ impl Told {
     }
 
     /// A call on lists; address and level are for the file only.
-    pub fn on_lists(call: String, lists: &Lists, address: u16, level: i32) -> Told {
+    pub fn on_lists(call: String, lists: &Lists, address: u32, level: i32) -> Told {
         let file = bytes(&Trace { address, level, ranges: lists.ranges() });
         Told { call, lists: lists.clone(), file }
     }

@@ -17,7 +17,7 @@ pub struct ReadCall {
     times: Lent<u32>,
     lows: Lent<i32>,
     highs: Lent<i32>,
-    address: Lent<u16>,
+    address: Lent<u32>,
     level: Lent<i32>,
     ranges: Lent<usize>,
 }

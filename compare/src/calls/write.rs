@@ -30,7 +30,7 @@ impl WriteCall {
     /// Calls Write; `expected` is the answer on a slice that is long enough.
     pub fn call(
         &mut self,
-        (address, level, lists): (u16, i32, &Lists),
+        (address, level, lists): (u32, i32, &Lists),
         expected: Result<&[u8], u8>,
         room: &Room,
         random: &mut Random,

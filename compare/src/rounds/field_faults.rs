@@ -1,12 +1,13 @@
 //! Every set of faults in one field, so that the order of the refusals is tried, with more damage behind the field.
 
-use crate::damage::outside;
+use crate::damage::{address_widened, outside};
 use crate::desk::Desk;
 use crate::difference::Outcome;
 use crate::file::{bytes, field_start};
 use crate::random::Random;
 use crate::segments::{BY_CLIPPING, BY_TRYING, Fitter};
 use crate::trace::{MOST_RANGES, Range, Trace};
+use crate::traces::addresses::address;
 use crate::traces::long::full;
 use crate::traces::small::small_trace;
 
@@ -36,8 +37,11 @@ const FAULTS: [Fault; 8] = [
 /// How often each set of faults is tried in a field of a small file.
 const ROUNDS: usize = 4;
 
+/// Lengths of the address field; 1 and 2 are good, but one of them is not that of the body.
+const ADDRESS_LENGTHS: [u16; 10] = [0, 1, 2, 3, 4, 256, 257, 258, 512, 65_535];
+
 pub fn compare(desk: &mut Desk) -> Outcome {
-    let too_many = Trace { address: 1, level: 0, ranges: full(MOST_RANGES + 1) };
+    let ranges = full(MOST_RANGES + 1);
     for set in 0..1 << FAULTS.len() {
         let faults: Vec<Fault> = (0..FAULTS.len()).filter(|bit| set >> bit & 1 == 1).map(|bit| FAULTS[bit]).collect();
         for _ in 0..ROUNDS {
@@ -47,6 +51,7 @@ pub fn compare(desk: &mut Desk) -> Outcome {
                 one(desk, &trace, (field, &faults), BY_TRYING)?;
             }
         }
+        let too_many = Trace { address: address(&mut desk.random), level: 0, ranges: ranges.clone() };
         one(desk, &too_many, (MOST_RANGES + 2, &faults), BY_CLIPPING)?;
     }
     Ok(())
@@ -60,7 +65,10 @@ fn one(desk: &mut Desk, trace: &Trace, (field, faults): (usize, &[Fault]), fitte
         spoil_value(&mut trace, field, *fault, random);
     }
     let mut file = bytes(&trace);
-    let (start, end) = (field_start(field), field_start(field + 1));
+    if field == 0 && faults.contains(&Fault::High) {
+        address_widened(&mut file, random);
+    }
+    let (start, end) = (field_start(&file, field), field_start(&file, field + 1));
     spoil_behind(&mut file, end, random);
     for fault in faults {
         spoil_bytes(&mut file, start, end, *fault, random);
@@ -69,12 +77,13 @@ fn one(desk: &mut Desk, trace: &Trace, (field, faults): (usize, &[Fault]), fitte
     desk.file(&file, fitter)
 }
 
+/// A low that is wrong stands for an address of 0 and for a wrong level too, a high for an address in two bytes that is
+/// below 256.
 fn spoil_value(trace: &mut Trace, field: usize, fault: Fault, random: &mut Random) {
-    let wrong = matches!(fault, Fault::Low | Fault::High);
-    match field {
-        0 if wrong => trace.address = 0,
-        1 if wrong => trace.level = outside(random),
-        0 | 1 => {}
+    match (field, fault) {
+        (0, Fault::Low) => trace.address = 0,
+        (1, Fault::Low | Fault::High) => trace.level = outside(random),
+        (0 | 1, _) => {}
         _ => spoil_range(&mut trace.ranges, field - 2, fault, random),
     }
 }
@@ -97,6 +106,9 @@ fn spoil_bytes(file: &mut Vec<u8>, start: usize, end: usize, fault: Fault, rando
     match fault {
         Fault::EndsInHeader => file.truncate(start + random.below(3)),
         Fault::Tag if has(start) => file[start] = random.pick(&[0, 4, 255, file[start] + 1]),
+        Fault::Length if has(2) && start == 0 && random.one_in(2) => {
+            file[1..3].copy_from_slice(&random.pick(&ADDRESS_LENGTHS).to_be_bytes());
+        }
         Fault::Length if has(start + 2) => file[start + 1 + random.below(2)] ^= 1 << random.below(8),
         Fault::EndsInBody => file.truncate(start + 3 + random.below(end - start - 3)),
         _ => {}

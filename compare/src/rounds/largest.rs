@@ -7,15 +7,19 @@ use crate::difference::Outcome;
 use crate::file;
 use crate::room::Room;
 use crate::segments::BY_CLIPPING;
-use crate::trace::{Lists, MOST_RANGES, Trace};
+use crate::trace::{LARGEST_ADDRESS, Lists, MOST_RANGES, Trace};
 use crate::traces::long::full;
 use humoraki::WRITE_ROOM;
 
 /// What the report program reads of standard input at most.
 const INPUT: usize = 65_536;
 
-/// The largest file.
-const LARGEST: usize = WRITE_ROOM;
+/// The largest address of each length.
+const ADDRESSES: [u32; 2] = [255, LARGEST_ADDRESS];
+
+/// The scope's least length for Write, and so the length of the largest file.
+const LARGEST: usize = 61_452;
+const _: () = assert!(WRITE_ROOM == LARGEST);
 
 /// How many other ends are tried for the largest file.
 const CUTS: usize = 300;
@@ -23,18 +27,26 @@ const CUTS: usize = 300;
 pub fn compare(desk: &mut Desk) -> Outcome {
     for count in [MOST_RANGES - 1, MOST_RANGES, MOST_RANGES + 1, MOST_RANGES + 2, 2 * MOST_RANGES] {
         as_lists(desk, count)?;
-        let trace = Trace { address: 255, level: 0, ranges: full(count) };
-        desk.file(&file::bytes(&trace), BY_CLIPPING)?;
-        desk.tally.add("traces of about 4,096 ranges", 1);
+        for address in ADDRESSES {
+            let trace = Trace { address, level: 0, ranges: full(count) };
+            desk.file(&file::bytes(&trace), BY_CLIPPING)?;
+            desk.tally.add("traces of about 4,096 ranges", 1);
+        }
     }
-    around_the_largest_file(desk)?;
-    long_inputs(desk)
+    for address in ADDRESSES {
+        around_the_largest_file(desk, address)?;
+    }
+    ADDRESSES.into_iter().try_for_each(|address| long_inputs(desk, address))
 }
 
 fn as_lists(desk: &mut Desk, count: usize) -> Outcome {
     let lists = Lists::of(&full(count));
-    let expected = answers::write(1, 0, &lists);
-    desk.write((1, 0, &lists), borrowed(&expected), &Room::enough())?;
+    for address in ADDRESSES {
+        let expected = answers::write(address, 0, &lists);
+        for room in [WRITE_ROOM, WRITE_ROOM - 1] {
+            desk.write((address, 0, &lists), borrowed(&expected), &Room::with_length(0, room))?;
+        }
+    }
     let expected = answers::segment(0, &lists, BY_CLIPPING);
     desk.segment(0, &lists, borrowed(&expected), &Room::enough())?;
     for k in [0, 1, 2, count, count + 1] {
@@ -44,37 +56,43 @@ fn as_lists(desk: &mut Desk, count: usize) -> Outcome {
     Ok(())
 }
 
+/// The file of a trace with more than 4,096 ranges, and how many bytes the first 4,096 and what is before them have.
+fn too_long(address: u32, ranges: usize) -> (Vec<u8>, usize) {
+    let file = file::bytes(&Trace { address, level: 0, ranges: full(ranges) });
+    let largest = file::field_start(&file, MOST_RANGES + 2);
+    assert!(address != LARGEST_ADDRESS || largest == LARGEST, "the largest file has another length");
+    (file, largest)
+}
+
 /// Every end near the end of the largest file, and some others; with wrong bytes behind it.
-fn around_the_largest_file(desk: &mut Desk) -> Outcome {
-    let trace = Trace { address: 1, level: 0, ranges: full(MOST_RANGES + 3) };
-    let file = file::bytes(&trace);
-    let mut ends: Vec<usize> = (LARGEST - 32..=file.len()).collect();
-    ends.extend((0..CUTS).map(|_| desk.random.below(LARGEST)));
+fn around_the_largest_file(desk: &mut Desk, address: u32) -> Outcome {
+    let (file, largest) = too_long(address, MOST_RANGES + 3);
+    let mut ends: Vec<usize> = (largest - 32..=file.len()).collect();
+    ends.extend((0..CUTS).map(|_| desk.random.below(largest)));
     for end in ends {
         let expected = answers::read(&file[..end]);
         desk.read(&file[..end], borrowed(&expected), &Room::enough())?;
         desk.tally.add("ends of the largest file", 1);
     }
     for place in 0..3 {
-        let mut file = file[..LARGEST + place + 1].to_vec();
-        file[LARGEST + place] = 77;
+        let mut file = file[..largest + place + 1].to_vec();
+        file[largest + place] = 77;
         desk.file(&file, BY_CLIPPING)?;
-        file.resize(LARGEST + 3, 0);
+        file.resize(largest + 3, 0);
         desk.file(&file, BY_CLIPPING)?;
     }
     Ok(())
 }
 
 /// Inputs of 65,536 bytes and more: the report of the first 65,536 is the report of all.
-fn long_inputs(desk: &mut Desk) -> Outcome {
-    let trace = Trace { address: 1, level: 0, ranges: full(3 * MOST_RANGES) };
-    let good = file::bytes(&trace);
+fn long_inputs(desk: &mut Desk, address: u32) -> Outcome {
+    let (good, largest) = too_long(address, 3 * MOST_RANGES);
     for length in [INPUT - 1, INPUT, INPUT + 1, 2 * INPUT] {
         let random = (0..length).map(|_| desk.random.next() as u8).collect();
         let mut junk_behind = good.clone();
-        junk_behind[LARGEST..].iter_mut().for_each(|byte| *byte ^= 0x55);
+        junk_behind[largest..].iter_mut().for_each(|byte| *byte ^= 0x55);
         let mut late_fault = good.clone();
-        late_fault[LARGEST - 15 + 3 + 4] = 0x7f;
+        late_fault[largest - 15 + 3 + 4] = 0x7f;
         for file in [good.clone(), random, junk_behind, late_fault] {
             let report = answers::report(&file[..INPUT.min(length)], BY_CLIPPING);
             let expected = answers::read(&file[..length]);

@@ -8,7 +8,8 @@ use crate::difference::Outcome;
 use crate::random::Random;
 use crate::room::Room;
 use crate::segments::BY_TRYING;
-use crate::trace::{LARGEST_ADDRESS, Lists, MOST_RANGES, Range};
+use crate::trace::{Lists, MOST_RANGES, Range};
+use crate::traces::addresses;
 use crate::traces::long::full;
 use crate::traces::small::small_ranges;
 use humoraki::{CORNER_ROOM, SEGMENT_ROOM, WRITE_ROOM};
@@ -46,7 +47,7 @@ const ROUNDS: usize = 10;
 
 /// What is handed to the three calls.
 struct Handed {
-    address: u16,
+    address: u32,
     level: i32,
     k: usize,
     lists: Lists,
@@ -71,7 +72,7 @@ pub fn compare(desk: &mut Desk) -> Outcome {
 fn sound(many: bool, random: &mut Random) -> Handed {
     let ranges = if many { full(MOST_RANGES + 1 + random.below(40)) } else { some_ranges(random) };
     Handed {
-        address: 1 + random.below(LARGEST_ADDRESS as usize) as u16,
+        address: addresses::address(random),
         level: random.between(-50, 50) as i32,
         k: 1 + random.below(ranges.len()),
         lists: Lists::of(&ranges),
@@ -96,7 +97,7 @@ fn spoil(handed: &mut Handed, fault: Fault, random: &mut Random) {
         Fault::TooMany => {}
         Fault::ShortSlice => handed.short = true,
         Fault::LengthsDiffer => change_length(lists, random),
-        Fault::Address => handed.address = random.pick(&[0, 256, 257, 511, 512, 65_535]),
+        Fault::Address => handed.address = addresses::outside(random),
         Fault::Level => handed.level = outside(random),
         Fault::Low => lists.lows[place] = outside(random),
         Fault::High => lists.highs[place] = outside(random),

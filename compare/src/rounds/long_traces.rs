@@ -8,6 +8,7 @@ use crate::report;
 use crate::room::Room;
 use crate::segments::{BY_CLIPPING, Segment, Stage, stages};
 use crate::trace::{Lists, MOST_RANGES, Range, Trace};
+use crate::traces::addresses::address;
 use crate::traces::levels::level;
 use crate::traces::long::SHAPES;
 
@@ -62,7 +63,7 @@ fn every_stage(desk: &mut Desk, ranges: &[Range]) -> Result<Vec<Stage>, Box<Diff
 fn at_some_level(desk: &mut Desk, ranges: &[Range], last_stages: &[Stage]) -> Outcome {
     let level = level(ranges, last_stages, &mut desk.random);
     let segments: Vec<Segment> = last_stages.iter().map(|stage| stage.segment(ranges, level)).collect();
-    let trace = Trace { address: 255, level, ranges: ranges.to_vec() };
+    let trace = Trace { address: address(&mut desk.random), level, ranges: ranges.to_vec() };
     let lists = Lists::of(ranges);
     let file = file::bytes(&trace);
     let text = report::accepted(&trace, &segments);

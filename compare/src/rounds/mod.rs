@@ -1,5 +1,6 @@
 //! The comparison, round by round.
 
+pub mod addresses;
 pub mod damaged_files;
 pub mod field_faults;
 pub mod largest;

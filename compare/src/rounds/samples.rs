@@ -39,8 +39,30 @@ pub fn compare(desk: &mut Desk) -> Outcome {
     segments(desk, &[(5, 0, 268_435_456)], Ok((1, true)))?;
     segments(desk, &[(5, 0, 268_435_457)], Err(4))?;
     report(desk, &[], "refused 1\n")?;
-    let eleven = [1, 0, 1, 9, 2, 0, 4, 0, 0, 0, 20];
-    report(desk, &eleven, "detector 9 level 20 ranges 0 segments 0\n")
+    addresses(desk)
+}
+
+/// Files without ranges: the address field, with the level 20 behind it.
+fn addresses(desk: &mut Desk) -> Outcome {
+    let fields: [(&[u8], &str); 13] = [
+        (&[1, 0, 1, 9], "detector 9 level 20 ranges 0 segments 0\n"),
+        (&[1, 0, 1, 1], "detector 1 level 20 ranges 0 segments 0\n"),
+        (&[1, 0, 1, 255], "detector 255 level 20 ranges 0 segments 0\n"),
+        (&[1, 0, 2, 1, 0], "detector 256 level 20 ranges 0 segments 0\n"),
+        (&[1, 0, 2, 4, 210], "detector 1234 level 20 ranges 0 segments 0\n"),
+        (&[1, 0, 2, 255, 255], "detector 65535 level 20 ranges 0 segments 0\n"),
+        (&[1, 0, 1, 0], "refused 4\n"),
+        (&[1, 0, 2, 0, 0], "refused 4\n"),
+        (&[1, 0, 2, 0, 7], "refused 4\n"),
+        (&[1, 0, 2, 0, 255], "refused 4\n"),
+        (&[1, 0, 0], "refused 3\n"),
+        (&[1, 0, 3, 0, 1, 0], "refused 3\n"),
+        (&[1, 1, 1, 7], "refused 3\n"),
+    ];
+    for (field, text) in fields {
+        report(desk, &[field, &[2, 0, 4, 0, 0, 0, 20]].concat(), text)?;
+    }
+    report(desk, &[1, 0, 2, 1], "refused 1\n")
 }
 
 fn ranges(numbers: &[(u32, i32, i32)]) -> Vec<Range> {

@@ -11,7 +11,8 @@ use crate::report;
 use crate::room::Room;
 use crate::segments::{BY_TRYING, Segment, Stage, segments, stages};
 use crate::tally::Tally;
-use crate::trace::{LARGEST_ADDRESS, LAST_TIME, Lists, Range, Trace};
+use crate::trace::{LAST_TIME, Lists, Range, Trace};
+use crate::traces::addresses::address;
 use crate::traces::levels::level;
 use crate::traces::small::{kinds, small_ranges};
 
@@ -24,8 +25,7 @@ pub fn compare(desk: &mut Desk, traces: usize) -> Outcome {
         let (ranges, kind) = small_ranges(&mut desk.random);
         let stages: Vec<Stage> = stages(&ranges, BY_TRYING).collect();
         let level = level(&ranges, &stages, &mut desk.random);
-        let address = 1 + desk.random.below(LARGEST_ADDRESS as usize) as u16;
-        let trace = Trace { address, level, ranges };
+        let trace = Trace { address: address(&mut desk.random), level, ranges };
         let segments = segments(&trace.ranges, level, BY_TRYING);
         meaning::check(&trace, &stages, &segments)?;
         meaning::check_fitters(&trace.ranges)?;

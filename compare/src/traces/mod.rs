@@ -1,5 +1,6 @@
 //! Where the traces come from.
 
+pub mod addresses;
 pub mod grown;
 pub mod levels;
 pub mod long;

@@ -1,10 +1,11 @@
 //! Small traces, each of a kind that newcomers or a program could get wrong.
 
+use super::addresses::address;
 use super::grown;
 use super::times::times;
 use crate::line::Line;
 use crate::random::Random;
-use crate::trace::{LARGEST_ADDRESS, LARGEST_VALUE, LEAST_VALUE, Range, Trace};
+use crate::trace::{LARGEST_VALUE, LEAST_VALUE, Range, Trace};
 
 const MOST: usize = 10;
 
@@ -32,8 +33,7 @@ pub fn kinds() -> impl Iterator<Item = &'static str> {
 /// A small trace at some level.
 pub fn small_trace(random: &mut Random) -> Trace {
     let (ranges, _) = small_ranges(random);
-    let address = 1 + random.below(LARGEST_ADDRESS as usize) as u16;
-    Trace { address, level: random.between(-50, 50) as i32, ranges }
+    Trace { address: address(random), level: random.between(-50, 50) as i32, ranges }
 }
 
 /// The ranges of a small trace, and what kind they are of.

@@ -14,7 +14,7 @@ use Rattle.integers.specs.Sorting.{insert, sorted}
 use Rattle.integers.specs.Least.{scan, first, firstByEnds}
 use Rattle.integers.specs.Gcd.{euclid, gcd}
 use Rattle.integers.specs.LowestTerms.{commonDivisor}
-use Rattle.definitions.specs.Spans.{segmentRoom, cornerRoom, readRoom}
+use Rattle.definitions.specs.Spans.{segmentRoom, cornerRoom, readRoom, writeRoom}
 use Rattle.definitions.specs.Times.{none, at}
 use Rattle.definitions.specs.Ranges.{Range, Lists, zipRanges, rangesOf}
 use Rattle.definitions.specs.Lines.{Line, reading, fitsRange, fits, sideAt, notBelow, atOrAbove, through, throughEnds, candidatesFrom, candidates, hasLine}
@@ -24,28 +24,34 @@ use Rattle.definitions.specs.Segments.{segments, runningAfter}
 use Rattle.definitions.specs.Outlook.{someTime, allTime, Outlook, open-strip, lines, outlookOf, endTime, outlook}
 use Rattle.definitions.specs.Results.{Segment, segmentOf, segmentsOf, rowLength}
 use Rattle.definitions.specs.Answers.{Answer, refused, accepted, _>>=_, firstRow}
-use Rattle.definitions.specs.Trial.{outside, badAddress, notAbove, rangeRows, rangesRows, tooShort, differ, listRows, segmentRows, cornerRows}
-use Rattle.definitions.specs.TraceFile.{Trace, word, signed, header, takeField, addressOf, levelOf, rangeOf, addressRows, levelRows, readRanges, readFile}
-use Rattle.definitions.specs.Calls.{Fit, bounded, fitOf, segmentCall, cornersCall, readCall}
+use Rattle.definitions.specs.Trial.{outside, badAddress, notAbove, rangeRows, rangesRows, tooShort, differ, listRows, writeRows, segmentRows, cornerRows}
+use Rattle.definitions.specs.FileNumbers.{word, bytes4, signed, unsigned}
+use Rattle.definitions.specs.FieldKinds.{field, fieldTag, fieldSize, fieldBody, fieldRest, fieldRows, takeField}
+use Rattle.definitions.specs.HeaderFields.{addressOf, addressBody, levelOf, addressKind, levelKind, readHeader, writeHeader}
+use Rattle.definitions.specs.TraceFile.{Trace, rangeOf, rangeForm, rangeKind, readFields, readFile, writeRanges, writeFile}
+use Rattle.definitions.specs.Calls.{Fit, bounded, fitOf, readCall, writeCall, segmentCall, cornersCall}
 use Rattle.definitions.specs.Report.{ascii, digitsWithin, decimal, signedDecimal, timeText, lineText, outlookText, spanText, segmentLine, segmentLines, traceLine, refusedLine, traceText, reportText, report, reportRoom, reportCall}
 
--- Segment with a level and lists, Corners with k and lists, or Read or the report with a file; the lent slices are as long as they must be
+-- Segment with a level and lists, Corners with k and lists, Read or the report with a file, or Write with an address, a level and no ranges; the lent slices are as long as they must be
 pub data Call : Type 0 where
   segment : ℤ → Lists → Call
   cornersAfter : ℕ → Lists → Call
   read : List ℕ → Call
+  write : ℕ → ℤ → Call
   print : List ℕ → Call
 
 pub data Result : Type 0 where
   segmented : Answer (List Segment) → Result
   cornered : Answer Fit → Result
   opened : Answer Trace → Result
+  written : Answer (List ℕ) → Result
   printed : Answer (List ℕ) → Result
 
 pub run : Call → Result
 run (segment level ls) = segmented (segmentCall (replicate rowLength segmentRoom) (record { level = level }) ls)
 run (cornersAfter k ls) = cornered (cornersCall (replicate 3 cornerRoom) k ls)
 run (read bs) = opened (readCall (replicate 3 readRoom) bs)
+run (write address level) = written (writeCall (writeRoom ∷ []) (record { address = address; service = record { level = level } }) (record { times = []; lows = []; highs = [] }))
 run (print bs) = printed (reportCall (reportRoom ∷ []) bs)
 
 infix 85 _gives_
@@ -85,9 +91,17 @@ points u = trace (0 ∷ 1 ∷ 2 ∷ []) (pos 0 ∷ pos 1 ∷ u ∷ []) (pos 0 �
 abbrev one : ℤ → ℤ → Lists
 one u v = trace (0 ∷ []) (u ∷ []) (v ∷ [])
 
+-- the field of level 20
+abbrev level20 : List ℕ
+level20 = 2 ∷ 0 ∷ 4 ∷ 0 ∷ 0 ∷ 0 ∷ 20 ∷ []
+
 -- address 7 and level 20, with no range
 abbrev header11 : List ℕ
-header11 = 1 ∷ 0 ∷ 1 ∷ 7 ∷ 2 ∷ 0 ∷ 4 ∷ 0 ∷ 0 ∷ 0 ∷ 20 ∷ []
+header11 = 1 ∷ 0 ∷ 1 ∷ 7 ∷ level20
+
+-- an address of two bytes and level 20, with no range
+abbrev header12 : ℕ → ℕ → List ℕ
+header12 a b = 1 ∷ 0 ∷ 2 ∷ a ∷ b ∷ level20
 
 -- a range field with numbers below 256
 abbrev rangeField : ℕ → ℕ → ℕ → List ℕ
@@ -108,8 +122,11 @@ segmentsAre ss = segmented (accepted ss)
 abbrev part : ℕ → ℕ → ℕ → Outlook → Segment
 part a b n o = record { firstTime = a; lastTime = b; count = n; outlook = o }
 
-abbrev traceIs : List Range → Result
-traceIs rs = opened (accepted (record { address = 7; level = pos 20; ranges = rs }))
+abbrev traceIs : ℕ → List Range → Result
+traceIs address rs = opened (accepted (record { head = record { address = address; service = record { level = pos 20 } }; ranges = rs }))
+
+abbrev bytesAre : List ℕ → Result
+bytesAre bytes = written (accepted bytes)
 
 abbrev textIs : List ℕ → Result
 textIs bytes = printed (accepted bytes)
@@ -136,17 +153,25 @@ table =
     ∷ segment (pos 20) (one (pos 0) (pos 268435456)) gives segmentsAre (part 0 0 1 open-strip ∷ [])
     ∷ segment (pos 20) (one (pos 0) (pos 268435457)) gives segmented (refused 4)
     ∷ read [] gives opened (refused 1)
-    ∷ read header11 gives traceIs []
-    ∷ read sampleFile gives traceIs (rangesOf sample)
+    ∷ read header11 gives traceIs 7 []
+    ∷ read sampleFile gives traceIs 7 (rangesOf sample)
+    ∷ read (header12 1 0) gives traceIs 256 []
+    ∷ read (header12 255 255) gives traceIs 65535 []
+    ∷ read (header12 0 255) gives opened (refused 4)
+    ∷ read (1 ∷ 0 ∷ 3 ∷ 0 ∷ 1 ∷ 0 ∷ level20) gives opened (refused 3)
+    ∷ write 255 (pos 20) gives bytesAre (1 ∷ 0 ∷ 1 ∷ 255 ∷ level20)
+    ∷ write 256 (pos 20) gives bytesAre (header12 1 0)
+    ∷ write 65543 (pos 20) gives written (refused 4)
     ∷ cornersAfter 0 sample gives cornered (refused 9)
     ∷ print sampleFile gives textIs
     (ascii "detector 7 level 20 ranges 5 segments 2\n"
     ++ ascii "segment 1 from 10 to 30 ranges 3 slow 3 10 10 fast 7 -70 10 some 39 all 64\n"
     ++ ascii "segment 2 from 40 to 50 ranges 2 slow -1 95 5 fast 3 -30 10 some 77 all none\n")
     ∷ print (header11 ++ rangeField 10 0 4) gives textIs (ascii "detector 7 level 20 ranges 1 segments 1\nsegment 1 from 10 to 10 ranges 1 open\n")
+    ∷ print (header12 4 210) gives textIs (ascii "detector 1234 level 20 ranges 0 segments 0\n")
     ∷ print [] gives textIs (ascii "refused 1\n")
     ∷ []
 
 pub table-holds : map (λ c. run (callOf c)) table ≡ map resultOf table
-unfolding table run callOf resultOf all any filter reading fitsRange fits sideAt notBelow atOrAbove through throughEnds candidatesFrom candidates hasLine euclid gcd commonDivisor reduced before side between betweenSome insert sorted fitting extreme getLastD cornerOrder corners cutFrom cut lastRun segments runningAfter scan firstByEnds first someTime allTime outlookOf endTime outlook segmentOf segmentsOf _>>=_ firstRow outside badAddress notAbove rangeRows rangesRows tooShort zipRanges rangesOf differ listRows segmentRows cornerRows word signed header takeField addressOf levelOf rangeOf addressRows levelRows readRanges readFile fitOf readCall segmentCall cornersCall digitsWithin decimal signedDecimal timeText lineText outlookText spanText segmentLine segmentLines traceLine refusedLine traceText reportText report reportCall
+unfolding table run callOf resultOf all any filter reading fitsRange fits sideAt notBelow atOrAbove through throughEnds candidatesFrom candidates hasLine euclid gcd commonDivisor reduced before side between betweenSome insert sorted fitting extreme getLastD cornerOrder corners cutFrom cut lastRun segments runningAfter scan firstByEnds first someTime allTime outlookOf endTime outlook segmentOf segmentsOf _>>=_ firstRow outside badAddress notAbove rangeRows rangesRows tooShort zipRanges rangesOf differ listRows writeRows segmentRows cornerRows word bytes4 signed unsigned field fieldTag fieldSize fieldBody fieldRest fieldRows takeField addressOf addressBody levelOf addressKind levelKind readHeader writeHeader rangeOf rangeForm rangeKind readFields readFile writeRanges writeFile fitOf readCall writeCall segmentCall cornersCall digitsWithin decimal signedDecimal timeText lineText outlookText spanText segmentLine segmentLines traceLine refusedLine traceText reportText report reportCall
 table-holds = refl

@@ -2,6 +2,7 @@ pub mod Spans
 pub mod Times
 pub mod Ranges
 pub mod Services
+pub mod Headers
 pub mod Lines
 pub mod Corners
 pub mod Splits
@@ -11,6 +12,9 @@ pub mod Outlook
 pub mod Results
 pub mod Answers
 pub mod Trial
+pub mod FileNumbers
+pub mod FieldKinds
+pub mod HeaderFields
 pub mod TraceFile
 pub mod Calls
 pub mod Report

@@ -82,11 +82,11 @@ refusedLine n = labelled "refused " (decimal n) ++ ascii "\n"
 -- ---- the whole
 
 unfoldable pub traceText : Trace → List Segment → List ℕ
-traceText t ss = traceLine (t .address) (t .level) (length (t .ranges)) (length ss) ++ segmentLines 1 ss
+traceText t ss = traceLine (t .head .address) (t .head .service .level) (length (t .ranges)) (length ss) ++ segmentLines 1 ss
 
 unfoldable pub reportText : Answer Trace → List ℕ
 reportText (refused n) = refusedLine n
-reportText (accepted t) = traceText t (segmentsOf (record { level = t .level }) (t .ranges))
+reportText (accepted t) = traceText t (segmentsOf (t .head .service) (t .ranges))
 
 unfoldable pub report : List ℕ → List ℕ
 report file = reportText (readFile file)

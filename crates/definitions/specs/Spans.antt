@@ -25,7 +25,7 @@ abbrev pub leastAddress : ℕ
 leastAddress = 1
 
 abbrev pub mostAddress : ℕ
-mostAddress = 255
+mostAddress = 65535
 
 -- Read: times, lows and highs
 abbrev pub readRoom : ℕ
@@ -33,7 +33,7 @@ readRoom = mostRanges
 
 -- Write: the file's bytes, as many as the largest file has
 abbrev pub writeRoom : ℕ
-writeRoom = 61451
+writeRoom = 61452
 
 -- Segment: each of the eleven slices
 abbrev pub segmentRoom : ℕ

@@ -2,3 +2,5 @@ pub mod PartLaws
 pub mod TwosComplement
 pub mod Walks
 pub mod Bridges
+pub mod Carries
+pub mod Relends

@@ -1,7 +1,6 @@
-// Parts of a slice, and the header of a field, with the slice and the position as plain parameters.
+// Parts of a slice, with the slice and the position as plain parameters.
 ghost use mathlib.Core.Path.{_≡_};
 ghost use lib.ListN.{getD, take, drop};
-ghost use Rattle.fields.specs.Heads.{headOf};
 ghost use Rattle.fields.specs.Places.{placeIn};
 
 // The byte at `at`; past the end, 0.
@@ -31,26 +30,4 @@ pub fn part(s: &[u8], at: usize, len: usize) -> &[u8]
         return &rest[..len];
     }
     rest
-}
-
-// What stands at the front of some bytes: the header of a field, or too few bytes for one.
-pub enum Head {
-    Field { tag: u8, len: usize },
-    Short,
-}
-
-// What stands at the front of s.
-pub fn head_of(s: &[u8]) -> Head
-    ensures { λ r. ⌜ r ≡ headOf (now (s .entry)) ⌝ }
-{
-    if s.len() < 3 {
-        return Head::Short;
-    }
-    let tag = byte_at(s, 0);
-    let high = byte_at(s, 1) as usize;
-    let low = byte_at(s, 2) as usize;
-    Head::Field {
-        tag,
-        len: high * 256 + low,
-    }
 }

@@ -12,6 +12,7 @@ use mathlib.Core.List.{List}
 use lib.IntN.{ℤ}
 use lib.ListN.{length}
 use Rattle.definitions.specs.Ranges.{Lists}
+use Rattle.definitions.specs.Headers.{Header}
 use Rattle.definitions.specs.Answers.{Answer, refused, accepted, _>>=_, refusal}
 use Rattle.definitions.specs.Calls.{Fit, open-strip, bounded}
 use Rattle.trace.specs.declared.ReadAnswer.{ReadAnswer}
@@ -83,15 +84,15 @@ after-read file old new h address level ranges number =
       times-are = h .times-are;
       lows-are = h .lows-are;
       highs-are = h .highs-are;
-      address-is = value-told recordOf below (h .answer-is) (λ known. known .address) (λ t. t .address) (λ t. refl) (old .address) address;
-      level-is = value-told recordOf below (h .answer-is) (λ known. known .level) (λ t. t .level) (λ t. refl) (old .level) level;
+      address-is = value-told recordOf below (h .answer-is) (λ known. known .address) (λ t. t .head .address) (λ t. refl) (old .address) address;
+      level-is = value-told recordOf below (h .answer-is) (λ known. known .level) (λ t. t .head .service .level) (λ t. refl) (old .level) level;
       ranges-is = value-told recordOf below (h .answer-is) (λ known. known .ranges) (λ t. length (t .ranges)) (λ t. refl) (old .ranges) ranges;
     }
 
-pub after-write : (address : ℕ) (level : ℤ) (ls : Lists) (old new : WriteLent) {answer : WriteAnswer} {r : ℕ} → WritePromise address level ls (old .file) (new .file) answer
-    → Counts (writeMeaning answer) (λ n. n) (old .count) (new .count) r → AfterWrite address level ls old new r
-after-write address level ls old new h counts =
-    record { counted = counts-told length (writeInto (old .file) address level ls) (h .answer-is) (λ n. n) length (λ bytes. refl) (old .count) counts; file-is = h .file-is }
+pub after-write : (h : Header) (ls : Lists) (old new : WriteLent) {answer : WriteAnswer} {r : ℕ} → WritePromise h ls (old .file) (new .file) answer
+    → Counts (writeMeaning answer) (λ n. n) (old .count) (new .count) r → AfterWrite h ls old new r
+after-write h ls old new promise counts =
+    record { counted = counts-told length (writeInto (old .file) h ls) (promise .answer-is) (λ n. n) length (λ bytes. refl) (old .count) counts; file-is = promise .file-is }
 
 pub after-segment : (level : ℤ) (ls : Lists) (old new : SegmentLent) {answer : SegmentAnswer} {r : ℕ} → SegmentPromise (record { level = level }) ls (old .columns) (new .columns) answer
     → Counts (segmentMeaning answer) (λ n. n) (old .count) (new .count) r → AfterSegment level ls old new r

@@ -8,8 +8,8 @@
 --
 -- The number is 0 where the call is accepted. Where it is refused, everything that was lent holds its old contents: so say `given` and `filled`.
 --
--- Example: with h : AfterWrite address level ls old new r, `h .counted .count-is` is the equation of the lent count,
--- new .count ≡ given (writeInto (old .file) address level ls) length (old .count).
+-- Example: with after : AfterWrite h ls old new r, `after .counted .count-is` is the equation of the lent count,
+-- new .count ≡ given (writeInto (old .file) h ls) length (old .count).
 -- Assumes nothing.
 use Prim.Native.Nat.{ℕ}
 use mathlib.Core.Path.{_≡_}
@@ -17,6 +17,7 @@ use mathlib.Core.List.{List, [], _∷_, map}
 use lib.IntN.{ℤ}
 use lib.ListN.{length}
 use Rattle.definitions.specs.Ranges.{Lists}
+use Rattle.definitions.specs.Headers.{Header}
 use Rattle.definitions.specs.Results.{Segment, numbersOf}
 use Rattle.definitions.specs.Answers.{Answer, refused, accepted, refusal, filled}
 use Rattle.definitions.specs.TraceFile.{Trace}
@@ -53,8 +54,8 @@ pub record AfterRead (file : List ℕ) (old new : ReadLent) (r : ℕ) : Type 0 w
   pub times-are : new .times ≡ filled (readAnswer file old) (λ t. map (λ r. r .time) (t .ranges)) (old .times)
   pub lows-are : new .lows ≡ filled (readAnswer file old) (λ t. map (λ r. r .low) (t .ranges)) (old .lows)
   pub highs-are : new .highs ≡ filled (readAnswer file old) (λ t. map (λ r. r .high) (t .ranges)) (old .highs)
-  pub address-is : new .address ≡ given (readAnswer file old) (λ t. t .address) (old .address)
-  pub level-is : new .level ≡ given (readAnswer file old) (λ t. t .level) (old .level)
+  pub address-is : new .address ≡ given (readAnswer file old) (λ t. t .head .address) (old .address)
+  pub level-is : new .level ≡ given (readAnswer file old) (λ t. t .head .service .level) (old .level)
   pub ranges-is : new .ranges ≡ given (readAnswer file old) (λ t. length (t .ranges)) (old .ranges)
 
 -- ---- Write
@@ -63,9 +64,9 @@ pub record WriteLent : Type 0 where
   pub file : List ℕ
   pub count : ℕ
 
-pub record AfterWrite (address : ℕ) (level : ℤ) (ls : Lists) (old new : WriteLent) (r : ℕ) : Type 0 where
-  pub counted : Counts (writeInto (old .file) address level ls) length (old .count) (new .count) r
-  pub file-is : new .file ≡ filled (writeInto (old .file) address level ls) (λ bytes. bytes) (old .file)
+pub record AfterWrite (h : Header) (ls : Lists) (old new : WriteLent) (r : ℕ) : Type 0 where
+  pub counted : Counts (writeInto (old .file) h ls) length (old .count) (new .count) r
+  pub file-is : new .file ≡ filled (writeInto (old .file) h ls) (λ bytes. bytes) (old .file)
 
 -- ---- Segment
 

@@ -11,6 +11,7 @@ use mathlib.Core.List.{List, [], _∷_}
 use lib.IntN.{ℤ}
 use lib.ListN.{length}
 use Rattle.definitions.specs.Ranges.{Lists, rangesOf}
+use Rattle.definitions.specs.Headers.{Header}
 use Rattle.definitions.specs.Segments.{runningAfter}
 use Rattle.definitions.specs.Results.{segmentsOf}
 use Rattle.definitions.specs.Answers.{Answer, accepted, _>>=_, Row, _if_, firstRow, refusal}
@@ -47,17 +48,17 @@ module _ {file : List ℕ} {old new : ReadLent} {r : ℕ} (after : AfterRead fil
   pub read-none : (r ≡ 0) ↔ NoneHolds (readRows slices file)
   read-none = none-exactly (readRows slices file) (fileTrace file) (read-by-rows slices file) (read-zero after)
 
-module _ {address : ℕ} {level : ℤ} {ls : Lists} {old new : WriteLent} {r : ℕ} (after : AfterWrite address level ls old new r) where
+module _ {h : Header} {ls : Lists} {old new : WriteLent} {r : ℕ} (after : AfterWrite h ls old new r) where
   abbrev rows-of-write : List Row
-  rows-of-write = writeRows (length (old .file) ∷ []) address level ls
+  rows-of-write = writeRows (length (old .file) ∷ []) h ls
 
   pub write-number : (n : ℕ) → 0 < n → (r ≡ n) ↔ FirstAt n rows-of-write
   unfolding writeCall
-  write-number = exactly rows-of-write (writeFile (traceOf address level ls)) refl (after .counted .number-is)
+  write-number = exactly rows-of-write (writeFile (traceOf h ls)) refl (after .counted .number-is)
 
   pub write-none : (r ≡ 0) ↔ NoneHolds rows-of-write
   unfolding writeCall
-  write-none = none-exactly rows-of-write (writeFile (traceOf address level ls)) refl (write-zero after)
+  write-none = none-exactly rows-of-write (writeFile (traceOf h ls)) refl (write-zero after)
 
 module _ {level : ℤ} {ls : Lists} {old new : SegmentLent} {r : ℕ} (after : AfterSegment level ls old new r) where
   abbrev rows-of-segment : List Row

@@ -13,6 +13,7 @@ use native.Mathlib.Omega.{arith}
 use lib.IntN.{ℤ}
 use Rattle.definitions.specs.Times.{none}
 use Rattle.definitions.specs.Ranges.{Lists, rangesOf}
+use Rattle.definitions.specs.Headers.{Header}
 use Rattle.definitions.specs.Answers.{Answer, refused, accepted, _>>=_, Row, _if_, firstRow, refusal}
 use Rattle.definitions.specs.Trial.{rangesRows, listRows, writeRows, segmentRows, cornerRows}
 use Rattle.definitions.specs.Calls.{writeCall, segmentCall, cornersCall}
@@ -49,10 +50,10 @@ call-above rows a h n e = rows-above rows h n (bind-refused (firstRow rows) (λ 
 pub read-zero : {file : List ℕ} {old new : ReadLent} {r : ℕ} → AfterRead file old new r → (r ≡ 0) ↔ Accepted (readAnswer file old)
 read-zero {file} {old} h = zero-exactly (readAnswer file old) (λ n e. let m = read-number _ file n e .0 in omega arith) (h .number-is)
 
-pub write-zero : {address : ℕ} {level : ℤ} {ls : Lists} {old new : WriteLent} {r : ℕ} → AfterWrite address level ls old new r → (r ≡ 0) ↔ Accepted (writeInto (old .file) address level ls)
+pub write-zero : {h : Header} {ls : Lists} {old new : WriteLent} {r : ℕ} → AfterWrite h ls old new r → (r ≡ 0) ↔ Accepted (writeInto (old .file) h ls)
 unfolding writeCall writeRows listRows
-write-zero {address} {level} {ls} {old} h =
-    zero-exactly (writeInto (old .file) address level ls) (call-above _ _ (omega arith, (omega arith, (omega arith, (omega arith, (omega arith, ranges-numbered none (rangesOf ls))))))) (h .counted .number-is)
+write-zero {h} {ls} {old} after =
+    zero-exactly (writeInto (old .file) h ls) (call-above _ _ (omega arith, (omega arith, (omega arith, (omega arith, (omega arith, ranges-numbered none (rangesOf ls))))))) (after .counted .number-is)
 
 pub segment-zero : {level : ℤ} {ls : Lists} {old new : SegmentLent} {r : ℕ} → AfterSegment level ls old new r → (r ≡ 0) ↔ Accepted (segmentAnswer level ls old)
 unfolding segmentCall segmentRows listRows

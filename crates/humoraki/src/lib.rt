@@ -15,7 +15,7 @@ pub extern "C" fn humoraki_read(
     times: &mut [u32],
     lows: &mut [i32],
     highs: &mut [i32],
-    address: &mut u16,
+    address: &mut u32,
     level: &mut i32,
     ranges: &mut usize,
 ) -> u8
@@ -37,7 +37,7 @@ pub extern "C" fn humoraki_read(
 // The file of a trace, and the count of its bytes.
 #[no_mangle]
 pub extern "C" fn humoraki_write(
-    address: u16,
+    address: u32,
     level: i32,
     times: &[u32],
     lows: &[i32],
@@ -45,7 +45,7 @@ pub extern "C" fn humoraki_write(
     file: &mut [u8],
     count: &mut usize,
 ) -> u8
-    ensures { λ r. ⌜ AfterWrite address level (record { times = now (times .entry); lows = now (lows .entry); highs = now (highs .entry) }) (record { file = now (file .entry); count = now (count .entry) }) (record { file = now (file .exit); count = now (count .exit) }) r ⌝ }
+    ensures { λ r. ⌜ AfterWrite (record { address = address; service = record { level = level } }) (record { times = now (times .entry); lows = now (lows .entry); highs = now (highs .entry) }) (record { file = now (file .entry); count = now (count .entry) }) (record { file = now (file .exit); count = now (count .exit) }) r ⌝ }
 {
     let answer = trace::write(address, level, times, lows, highs, file);
     match answer {

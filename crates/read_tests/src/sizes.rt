@@ -29,13 +29,32 @@ fn read_each(
     }
 }
 
-// A small file up to each length, and from one byte less than 4,096 ranges up to 4,097.
-pub fn files(times: &mut [u32], lows: &mut [i32], highs: &mut [i32]) {
+// A small file, up to each length below `end`.
+fn read_ends(address: u32, end: usize) {
+    let mut times = [1u32; READ_ROOM];
+    let mut lows = [2i32; READ_ROOM];
+    let mut highs = [3i32; READ_ROOM];
+    let mut file = [0u8; 42];
+    put_ends(&mut file, address);
+    read_each(&file, 0, end, &mut times, &mut lows, &mut highs);
+}
+
+// A file with 4,097 ranges, up to each length from `least` to below `end`.
+fn read_many(address: u32, least: usize, end: usize) {
+    let mut times = [1u32; READ_ROOM];
+    let mut lows = [2i32; READ_ROOM];
+    let mut highs = [3i32; READ_ROOM];
     let mut file = [0u8; ONE_TOO_MANY];
-    put_ends(&mut file);
-    read_each(&file, 0, 42, times, lows, highs);
-    put_many(&mut file, 4097);
-    read_each(&file, 61450, 61467, times, lows, highs);
+    put_many(&mut file, address, 4097);
+    read_each(&file, least, end, &mut times, &mut lows, &mut highs);
+}
+
+// Both, with an address of one byte and of two; the large file from one byte less than 4,096 ranges have.
+pub fn files() {
+    read_ends(1, 42);
+    read_ends(256, 43);
+    read_many(255, 61450, 61467);
+    read_many(65535, 61451, 61468);
 }
 
 fn read_into(times: &mut [u32], lows: &mut [i32], highs: &mut [i32]) {

@@ -35,21 +35,21 @@ times-long : (rs : List Range) → length (listsOf rs .times) ≡ length rs
 unfolding listsOf
 times-long rs = length-map rs (λ r. r .time)
 
-lists-taken : (t : Trace) → TraceTried t → segmentCall (replicate rowLength segmentRoom) (record { level = t .level }) (listsOf (t .ranges)) ≡ accepted (segmentsOf (record { level = t .level }) (t .ranges))
+lists-taken : (t : Trace) → TraceTried t → segmentCall (replicate rowLength segmentRoom) (t .head .service) (listsOf (t .ranges)) ≡ accepted (segmentsOf (t .head .service) (t .ranges))
 unfolding segmentCall segmentRows listRows tooShort any _>>=_
 lists-taken t h =
     let rs = t .ranges in
     let back = ranges-of-lists rs in
     let few = le-ltb mostRanges (length (listsOf rs .times)) (omega (arith, times-long rs, h .count-in)) in
     let rows = subst (λ l. NoneHolds (rangesRows none l)) (sym back) (h .ranges-in) in
-    let passed = first-row-accepted (segmentRows (replicate rowLength segmentRoom) (record { level = t .level }) (listsOf rs)) .1 (refl, (lists-alike rs, (few, (h .level-in, rows)))) in
-    ap (λ a. a >>= λ ok. accepted (segmentsOf (record { level = t .level }) (rangesOf (listsOf rs)))) passed ∙ ap (λ l. accepted (segmentsOf (record { level = t .level }) l)) back
+    let passed = first-row-accepted (segmentRows (replicate rowLength segmentRoom) (t .head .service) (listsOf rs)) .1 (refl, (lists-alike rs, (few, (h .head-in .1 .0, rows)))) in
+    ap (λ a. a >>= λ ok. accepted (segmentsOf (t .head .service) (rangesOf (listsOf rs)))) passed ∙ ap (λ l. accepted (segmentsOf (t .head .service) l)) back
 
-pub report-of-lists : (bs : List ℕ) (t : Trace) → readFile bs ≡ accepted t → listsText (t .address) (t .level) (listsOf (t .ranges)) ≡ report bs
+pub report-of-lists : (bs : List ℕ) (t : Trace) → readFile bs ≡ accepted t → listsText (t .head .address) (t .head .service .level) (listsOf (t .ranges)) ≡ report bs
 unfolding listsText answerText report reportText traceText
 report-of-lists bs t e =
-    ap (answerText (t .address) (t .level) (length (listsOf (t .ranges) .times))) (lists-taken t (read-tried bs t e))
-    ∙ ap (λ n. traceLine (t .address) (t .level) n (length (segmentsOf (record { level = t .level }) (t .ranges))) ++ segmentLines 1 (segmentsOf (record { level = t .level }) (t .ranges))) (times-long (t .ranges))
+    ap (answerText (t .head .address) (t .head .service .level) (length (listsOf (t .ranges) .times))) (lists-taken t (read-tried bs t e))
+    ∙ ap (λ n. traceLine (t .head .address) (t .head .service .level) n (length (segmentsOf (t .head .service) (t .ranges))) ++ segmentLines 1 (segmentsOf (t .head .service) (t .ranges))) (times-long (t .ranges))
     ∙ sym (ap reportText e)
 
 pub report-refused : (bs : List ℕ) (n : ℕ) → readFile bs ≡ refused n → refusedLine n ≡ report bs
@@ -57,8 +57,8 @@ unfolding report reportText
 report-refused bs n e = sym (ap reportText e)
 
 -- the level has 32 bits
-pub level-fits : (bs : List ℕ) (t : Trace) → readFile bs ≡ accepted t → SFits w32 (t .level)
-level-fits bs t e = record { sfits = in-span (t .level) (read-tried bs t e .level-in) }
+pub level-fits : (bs : List ℕ) (t : Trace) → readFile bs ≡ accepted t → SFits w32 (t .head .service .level)
+level-fits bs t e = record { sfits = in-span (t .head .service .level) (read-tried bs t e .head-in .1 .0) }
 
 -- the report program reads no further
 pub report-of-front : (file : List ℕ) → report (take 65536 file) ≡ report file

@@ -115,8 +115,8 @@ module _ {file times₀ times : List ℕ} {lows₀ lows highs₀ highs : List �
       let t = h .trace in
       let lists = firstOf (known .ranges) times lows highs in
       ap (λ k. listsText (k .address) (toZ w32 (ofZ w32 (k .level))) lists) (sym (h .known-is))
-      ∙ ap (λ z. listsText (t .address) z lists) (toZ-ofZ (level-fits file t (h .read)))
-      ∙ ap (listsText (t .address) (t .level)) (h .lists-are)
+      ∙ ap (λ z. listsText (t .head .address) z lists) (toZ-ofZ (level-fits file t (h .read)))
+      ∙ ap (listsText (t .head .address) (t .head .service .level)) (h .lists-are)
       ∙ report-of-lists file t (h .read)
 
 -- ---- slices of zeros, as the report lends them

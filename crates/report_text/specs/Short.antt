@@ -11,7 +11,7 @@ use mathlib.Core.List.{List, _++_}
 use native.Mathlib.Omega.{arith}
 use lib.IntN.{ℤ}
 use lib.ListN.{length, length-append}
-use mir.Syntax.{w8, w16, w32, w64}
+use mir.Syntax.{w8, w32, w64}
 use mir.Val.{Fits, SFits}
 use Rattle.definitions.specs.Lines.{Line}
 use Rattle.definitions.specs.Report.{ascii, labelled, decimal, signedDecimal, spanText, traceLine, refusedLine}
@@ -68,7 +68,7 @@ refused-short n h =
     let told = joined 8 10 (ascii "refused ") (decimal n) (omega arith) (decimal-long 9 n (omega (arith, h .fits))) in
     omega (arith, joined 18 1 (labelled "refused " (decimal n)) (ascii "\n") told (omega arith))
 
-pub heading-short : (address : ℕ) (level : ℤ) (ranges segments : ℕ) → Fits w16 address → SFits w64 level → Fits w64 ranges → Fits w64 segments → length (traceLine address level ranges segments) ≤ 256
+pub heading-short : (address : ℕ) (level : ℤ) (ranges segments : ℕ) → Fits w32 address → SFits w64 level → Fits w64 ranges → Fits w64 segments → length (traceLine address level ranges segments) ≤ 256
 unfolding traceLine
 heading-short address level ranges segments ha hl hr hs =
     let one = labelled "detector " (decimal address) in

@@ -28,7 +28,7 @@ pub fn put_refused(text: &mut [u8], at: usize, number: u8) -> usize
 pub fn put_heading(
     text: &mut [u8],
     at: usize,
-    address: u16,
+    address: u32,
     level: i32,
     ranges: usize,
     segments: usize,

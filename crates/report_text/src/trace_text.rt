@@ -104,7 +104,7 @@ fn put_segments(
 // The lines of a trace, at the start of the text.
 pub fn put_trace(
     text: &mut [u8],
-    address: u16,
+    address: u32,
     level: i32,
     times: &[u32],
     lows: &[i32],

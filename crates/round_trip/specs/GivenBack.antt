@@ -14,6 +14,7 @@ use lib.IntN.{ℤ}
 use lib.ListN.{length, take}
 use Rattle.definitions.specs.Spans.{readRoom, writeRoom}
 use Rattle.definitions.specs.Ranges.{Lists}
+use Rattle.definitions.specs.Headers.{Header}
 use Rattle.definitions.specs.Answers.{Answer, refused, accepted, _>>=_, firstRow, filled}
 use Rattle.definitions.specs.Trial.{tooShort}
 use Rattle.definitions.specs.TraceFile.{Trace}
@@ -29,24 +30,24 @@ long-enough : (least : ℕ) (lengths : List ℕ) → tooShort least lengths ≡ 
 unfolding firstRow
 long-enough least lengths room = rw room refl
 
-module _ {address : ℕ} {level : ℤ} {lists : Lists} {file₀ times₀ : List ℕ} {lows₀ highs₀ : List ℤ} {file times : List ℕ} {lows highs : List ℤ} {r : R.ReadAnswer}
-    (promise : WriteReadPromise address level lists file₀ times₀ lows₀ highs₀ file times lows highs r) where
+module _ {h : Header} {lists : Lists} {file₀ times₀ : List ℕ} {lows₀ highs₀ : List ℤ} {file times : List ℕ} {lows highs : List ℤ} {r : R.ReadAnswer}
+    (promise : WriteReadPromise h lists file₀ times₀ lows₀ highs₀ file times lows highs r) where
   abbrev lists-back : Answer Lists
-  lists-back = listsBack address level lists file₀ times₀ lows₀ highs₀
+  lists-back = listsBack h lists file₀ times₀ lows₀ highs₀
 
-  lists-accepted : (bytes : List ℕ) → writeInto file₀ address level lists ≡ accepted bytes → tooShort readRoom (length times₀ ∷ length lows₀ ∷ length highs₀ ∷ []) ≡ false → lists-back ≡ accepted lists
+  lists-accepted : (bytes : List ℕ) → writeInto file₀ h lists ≡ accepted bytes → tooShort readRoom (length times₀ ∷ length lows₀ ∷ length highs₀ ∷ []) ≡ false → lists-back ≡ accepted lists
   unfolding _>>=_
   lists-accepted bytes e room =
       ap (λ a. a >>= λ bytes. longEnough readRoom (length times₀ ∷ length lows₀ ∷ length highs₀ ∷ []) >>= λ ok. accepted lists) e
       ∙ ap (λ (a : Answer Unit). a >>= λ ok. accepted lists) (long-enough readRoom (length times₀ ∷ length lows₀ ∷ length highs₀ ∷ []) room)
 
-  pub given-lists-back : (bytes : List ℕ) → writeInto file₀ address level lists ≡ accepted bytes → tooShort readRoom (length times₀ ∷ length lows₀ ∷ length highs₀ ∷ []) ≡ false
-      → (readMeaning r ≡ accepted (recordOf (traceOf address level lists))) × (firstOf (length (lists .times)) times lows highs ≡ lists)
+  pub given-lists-back : (bytes : List ℕ) → writeInto file₀ h lists ≡ accepted bytes → tooShort readRoom (length times₀ ∷ length lows₀ ∷ length highs₀ ∷ []) ≡ false
+      → (readMeaning r ≡ accepted (recordOf (traceOf h lists))) × (firstOf (length (lists .times)) times lows highs ≡ lists)
   unfolding _>>=_
   given-lists-back bytes e room =
       let is = lists-accepted bytes e room in
-      let alike = same-length lists .0 (written (length file₀ ∷ []) address level lists bytes e .alike) in (
-        promise .answer-is ∙ ap (λ a. a >>= λ back. accepted (recordOf (traceOf address level back))) is,
+      let alike = same-length lists .0 (written (length file₀ ∷ []) h lists bytes e .alike) in (
+        promise .answer-is ∙ ap (λ a. a >>= λ back. accepted (recordOf (traceOf h back))) is,
         λ i. record {
           times = fill-front lists-back (λ back. back .times) times₀ times lists is (promise .times-are) i;
           lows = (ap (λ n. take n lows) (sym (alike .lows-long)) ∙ fill-front lists-back (λ back. back .lows) lows₀ lows lists is (promise .lows-are)) i;
@@ -54,7 +55,7 @@ module _ {address : ℕ} {level : ℤ} {lists : Lists} {file₀ times₀ : List 
         },
       )
 
-  pub given-lists-refused : (n : ℕ) → writeInto file₀ address level lists ≡ refused n → (readMeaning r ≡ refused n) × (file ≡ file₀) × (times ≡ times₀) × (lows ≡ lows₀) × (highs ≡ highs₀)
+  pub given-lists-refused : (n : ℕ) → writeInto file₀ h lists ≡ refused n → (readMeaning r ≡ refused n) × (file ≡ file₀) × (times ≡ times₀) × (lows ≡ lows₀) × (highs ≡ highs₀)
   unfolding _>>=_ filled
   given-lists-refused n e = (
     rw e at (promise .answer-is),

@@ -14,6 +14,7 @@ use lib.IntN.{ℤ}
 use lib.ListN.{length, take, drop}
 use Rattle.definitions.specs.Spans.{readRoom, writeRoom}
 use Rattle.definitions.specs.Ranges.{Lists}
+use Rattle.definitions.specs.Headers.{Header}
 use Rattle.definitions.specs.Answers.{Answer, refused, accepted, _>>=_, firstRow, filled}
 use Rattle.definitions.specs.Trial.{tooShort, listRows, writeRows}
 use Rattle.definitions.specs.TraceFile.{Trace}
@@ -28,7 +29,7 @@ use Rattle.trace.specs.declared.ReadAnswer as R
 use Rattle.trace.specs.declared.ReadAnswer.the-variants as ReadCase
 use Rattle.trace.specs.declared.WriteAnswer as W
 use Rattle.trace.specs.declared.WriteAnswer.the-variants as WriteCase
-use Rattle.trace.specs.Promises.{readMeaning, writeMeaning, recordOf, readInto, writeInto, ReadPromise, WritePromise}
+use Rattle.trace.specs.Promises.{readMeaning, writeMeaning, recordOf, headOf, readInto, writeInto, ReadPromise, WritePromise}
 use Rattle.trace.specs.BothWays.{firstOf, bytes-written, trace-read, read-back, write-back}
 use Rattle.round_trip.specs.Promises.{longEnough, listsBack, bytesBack, WriteReadPromise, ReadWritePromise}
 
@@ -46,17 +47,17 @@ read-short : (lengths bs : List ℕ) → tooShort readRoom lengths ≡ true → 
 unfolding readCall firstRow _>>=_
 read-short lengths bs e = rw e refl
 
-write-short : (lengths : List ℕ) (address : ℕ) (level : ℤ) (lists : Lists) → tooShort writeRoom lengths ≡ true → writeCall lengths address level lists ≡ refused 8
+write-short : (lengths : List ℕ) (h : Header) (lists : Lists) → tooShort writeRoom lengths ≡ true → writeCall lengths h lists ≡ refused 8
 unfolding writeCall writeRows listRows firstRow _>>=_
-write-short lengths address level lists e = rw e refl
+write-short lengths h lists e = rw e refl
 
 -- ---- Write, then Read
 
-pub promise-not-written : {address : ℕ} {level : ℤ} {lists : Lists} {file₀ file : List ℕ} {n : ℕ} (times₀ : List ℕ) (lows₀ highs₀ : List ℤ) → WritePromise address level lists file₀ file (WriteCase.Refused n)
-    → WriteReadPromise address level lists file₀ times₀ lows₀ highs₀ file times₀ lows₀ highs₀ (ReadCase.Refused n)
+pub promise-not-written : {h : Header} {lists : Lists} {file₀ file : List ℕ} {n : ℕ} (times₀ : List ℕ) (lows₀ highs₀ : List ℤ) → WritePromise h lists file₀ file (WriteCase.Refused n)
+    → WriteReadPromise h lists file₀ times₀ lows₀ highs₀ file times₀ lows₀ highs₀ (ReadCase.Refused n)
 unfolding writeMeaning readMeaning _>>=_ filled
-promise-not-written {address} {level} {lists} {file₀} {file} {n} times₀ lows₀ highs₀ written =
-    let is = bind-refused (writeInto file₀ address level lists) length n (sym (written .answer-is)) in
+promise-not-written {h} {lists} {file₀} {file} {n} times₀ lows₀ highs₀ written =
+    let is = bind-refused (writeInto file₀ h lists) length n (sym (written .answer-is)) in
     record { answer-is = rw is refl; file-is = written .file-is; times-are = rw is refl; lows-are = rw is refl; highs-are = rw is refl }
 
 -- two answers to one trial fill a slice alike, if their entries are the same
@@ -65,40 +66,40 @@ unfolding _>>=_ filled
 filled-same (refused n) a b f g old e = refl
 filled-same (accepted ok) a b f g old e = ap (λ new. new ++ drop (length new) old) e
 
-module _ {address : ℕ} {level : ℤ} {lists : Lists} {file₀ file : List ℕ} {n : ℕ} (written : WritePromise address level lists file₀ file (WriteCase.Accepted n)) (words : Words (lists .times))
+module _ {h : Header} {lists : Lists} {file₀ file : List ℕ} {n : ℕ} (written : WritePromise h lists file₀ file (WriteCase.Accepted n)) (words : Words (lists .times))
     {times₀ times : List ℕ} {lows₀ lows highs₀ highs : List ℤ} {r : R.ReadAnswer} (read : ReadPromise (take n file) times₀ lows₀ highs₀ times lows highs r) where
   abbrev room : Answer Unit
   room = longEnough readRoom (length times₀ ∷ length lows₀ ∷ length highs₀ ∷ [])
 
   abbrev back : Answer Lists
-  back = listsBack address level lists file₀ times₀ lows₀ highs₀
+  back = listsBack h lists file₀ times₀ lows₀ highs₀
 
-  read-is : readInto times₀ lows₀ highs₀ (take n file) ≡ (room >>= λ ok. accepted (traceOf address level lists))
+  read-is : readInto times₀ lows₀ highs₀ (take n file) ≡ (room >>= λ ok. accepted (traceOf h lists))
   read-is =
       let slices = length times₀ ∷ length lows₀ ∷ length highs₀ ∷ [] in
-      by-room readRoom slices (readCall slices (take n file)) (traceOf address level lists) (read-short slices (take n file)) (read-back written words read)
+      by-room readRoom slices (readCall slices (take n file)) (traceOf h lists) (read-short slices (take n file)) (read-back written words read)
 
   back-is : back ≡ (room >>= λ ok. accepted lists)
   unfolding _>>=_
   back-is = let (bytes, e, f) = bytes-written written in ap (λ a. a >>= λ bytes. room >>= λ ok. accepted lists) e
 
-  fills : {A : Type 0} (f : Trace → List A) (g : Lists → List A) (old new : List A) → f (traceOf address level lists) ≡ g lists → new ≡ filled (readInto times₀ lows₀ highs₀ (take n file)) f old → new ≡ filled back g old
+  fills : {A : Type 0} (f : Trace → List A) (g : Lists → List A) (old new : List A) → f (traceOf h lists) ≡ g lists → new ≡ filled (readInto times₀ lows₀ highs₀ (take n file)) f old → new ≡ filled back g old
   fills f g old new same e =
-      e ∙ ap (λ a. filled a f old) read-is ∙ filled-same room (traceOf address level lists) lists f g old same ∙ sym (ap (λ a. filled a g old) back-is)
+      e ∙ ap (λ a. filled a f old) read-is ∙ filled-same room (traceOf h lists) lists f g old same ∙ sym (ap (λ a. filled a g old) back-is)
 
-  pub promise-written : WriteReadPromise address level lists file₀ times₀ lows₀ highs₀ file times lows highs r
+  pub promise-written : WriteReadPromise h lists file₀ times₀ lows₀ highs₀ file times lows highs r
   unfolding _>>=_ listsOf
   promise-written =
       let (bytes, e, f) = bytes-written written in
-      let is = lists-back (length file₀ ∷ []) address level lists bytes e in
+      let is = lists-back (length file₀ ∷ []) h lists bytes e in
       let told : Trace → Answer TraceRecord = λ t. accepted (recordOf t) in
       record {
         answer-is =
             read .answer-is
             ∙ ap (λ a. a >>= told) read-is
-            ∙ then-then room (λ ok. accepted (traceOf address level lists)) told
-            ∙ sym (then-then room (λ ok. accepted lists) (λ back. told (traceOf address level back)))
-            ∙ sym (ap (λ a. a >>= λ back. told (traceOf address level back)) back-is);
+            ∙ then-then room (λ ok. accepted (traceOf h lists)) told
+            ∙ sym (then-then room (λ ok. accepted lists) (λ back. told (traceOf h back)))
+            ∙ sym (ap (λ a. a >>= λ back. told (traceOf h back)) back-is);
         file-is = written .file-is;
         times-are = fills (λ t. map (λ q. q .time) (t .ranges)) (λ back. back .times) times₀ times (ap (λ l. l .times) is) (read .times-are);
         lows-are = fills (λ t. map (λ q. q .low) (t .ranges)) (λ back. back .lows) lows₀ lows (ap (λ l. l .lows) is) (read .lows-are);
@@ -115,13 +116,13 @@ promise-not-read {bs} {times₀} {lows₀ = lows₀} {highs₀ = highs₀} {n = 
     record { answer-is = rw is refl; times-are = read .times-are; lows-are = read .lows-are; highs-are = read .highs-are; copy-is = rw is refl }
 
 module _ {bs times₀ times : List ℕ} {lows₀ lows highs₀ highs : List ℤ} {known : TraceRecord} (read : ReadPromise bs times₀ lows₀ highs₀ times lows highs (ReadCase.Accepted known)) (bytes : Bytes bs)
-    {copy₀ copy : List ℕ} {w : W.WriteAnswer} (written : WritePromise (known .address) (known .level) (firstOf (known .ranges) times lows highs) copy₀ copy w) where
-  write-is : writeInto copy₀ (known .address) (known .level) (firstOf (known .ranges) times lows highs) ≡ bytesBack bs times₀ lows₀ highs₀ copy₀
+    {copy₀ copy : List ℕ} {w : W.WriteAnswer} (written : WritePromise (headOf known) (firstOf (known .ranges) times lows highs) copy₀ copy w) where
+  write-is : writeInto copy₀ (headOf known) (firstOf (known .ranges) times lows highs) ≡ bytesBack bs times₀ lows₀ highs₀ copy₀
   unfolding _>>=_
   write-is =
       let (t, e, f) = trace-read read in
       let lists = firstOf (known .ranges) times lows highs in
-      by-room writeRoom (length copy₀ ∷ []) (writeInto copy₀ (known .address) (known .level) lists) bs (write-short (length copy₀ ∷ []) (known .address) (known .level) lists) (write-back read bytes written)
+      by-room writeRoom (length copy₀ ∷ []) (writeInto copy₀ (headOf known) lists) bs (write-short (length copy₀ ∷ []) (headOf known) lists) (write-back read bytes written)
       ∙ sym (ap (λ a. a >>= λ t. longEnough writeRoom (length copy₀ ∷ []) >>= λ ok. accepted bs) e)
 
   pub promise-read : ReadWritePromise bs times₀ lows₀ highs₀ copy₀ times lows highs copy w

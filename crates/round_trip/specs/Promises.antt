@@ -13,6 +13,7 @@ use lib.IntN.{ℤ}
 use lib.ListN.{length}
 use Rattle.definitions.specs.Spans.{readRoom, writeRoom}
 use Rattle.definitions.specs.Ranges.{Lists}
+use Rattle.definitions.specs.Headers.{Header}
 use Rattle.definitions.specs.Answers.{Answer, accepted, _>>=_, _if_, firstRow, filled}
 use Rattle.definitions.specs.Trial.{tooShort}
 use Rattle.trace_laws.specs.RoundTrip.{traceOf}
@@ -26,18 +27,18 @@ longEnough least lengths = firstRow (8 if tooShort least lengths ∷ [])
 -- ---- Write, then Read
 
 -- Write's refusal; 8 where the slices for what is read are too short; else the lists that Write was given
-abbrev pub listsBack : ℕ → ℤ → Lists → List ℕ → List ℕ → List ℤ → List ℤ → Answer Lists
-listsBack address level lists file times lows highs =
-    writeInto file address level lists >>= λ bytes.
+abbrev pub listsBack : Header → Lists → List ℕ → List ℕ → List ℤ → List ℤ → Answer Lists
+listsBack h lists file times lows highs =
+    writeInto file h lists >>= λ bytes.
     longEnough readRoom (length times ∷ length lows ∷ length highs ∷ []) >>= λ ok.
     accepted lists
 
-pub record WriteReadPromise (address : ℕ) (level : ℤ) (lists : Lists) (file₀ times₀ : List ℕ) (lows₀ highs₀ : List ℤ) (file times : List ℕ) (lows highs : List ℤ) (r : R.ReadAnswer) : Type 0 where
-  pub answer-is : readMeaning r ≡ (listsBack address level lists file₀ times₀ lows₀ highs₀ >>= λ back. accepted (recordOf (traceOf address level back)))
-  pub file-is : file ≡ filled (writeInto file₀ address level lists) (λ bytes. bytes) file₀
-  pub times-are : times ≡ filled (listsBack address level lists file₀ times₀ lows₀ highs₀) (λ back. back .times) times₀
-  pub lows-are : lows ≡ filled (listsBack address level lists file₀ times₀ lows₀ highs₀) (λ back. back .lows) lows₀
-  pub highs-are : highs ≡ filled (listsBack address level lists file₀ times₀ lows₀ highs₀) (λ back. back .highs) highs₀
+pub record WriteReadPromise (h : Header) (lists : Lists) (file₀ times₀ : List ℕ) (lows₀ highs₀ : List ℤ) (file times : List ℕ) (lows highs : List ℤ) (r : R.ReadAnswer) : Type 0 where
+  pub answer-is : readMeaning r ≡ (listsBack h lists file₀ times₀ lows₀ highs₀ >>= λ back. accepted (recordOf (traceOf h back)))
+  pub file-is : file ≡ filled (writeInto file₀ h lists) (λ bytes. bytes) file₀
+  pub times-are : times ≡ filled (listsBack h lists file₀ times₀ lows₀ highs₀) (λ back. back .times) times₀
+  pub lows-are : lows ≡ filled (listsBack h lists file₀ times₀ lows₀ highs₀) (λ back. back .lows) lows₀
+  pub highs-are : highs ≡ filled (listsBack h lists file₀ times₀ lows₀ highs₀) (λ back. back .highs) highs₀
 
 -- ---- Read, then Write
 

@@ -7,7 +7,7 @@ use trace::write;
 
 // The file of a trace in the lent bytes, and what Read gives of it in other lists: the lists that were given, and the trace's record.
 pub fn write_then_read(
-    address: u16,
+    address: u32,
     level: i32,
     times: &[u32],
     lows: &[i32],
@@ -17,7 +17,7 @@ pub fn write_then_read(
     lows_back: &mut [i32],
     highs_back: &mut [i32],
 ) -> ReadAnswer
-    ensures { λ r. ⌜ WriteReadPromise address level (record { times = now (times .entry); lows = now (lows .entry); highs = now (highs .entry) }) (now (file .entry)) (now («times_back» .entry)) (now («lows_back» .entry)) (now («highs_back» .entry)) (now (file .exit)) (now («times_back» .exit)) (now («lows_back» .exit)) (now («highs_back» .exit)) r ⌝ }
+    ensures { λ r. ⌜ WriteReadPromise (record { address = address; service = record { level = level } }) (record { times = now (times .entry); lows = now (lows .entry); highs = now (highs .entry) }) (now (file .entry)) (now («times_back» .entry)) (now («lows_back» .entry)) (now («highs_back» .entry)) (now (file .exit)) (now («times_back» .exit)) (now («lows_back» .exit)) (now («highs_back» .exit)) r ⌝ }
 {
     let written = write(address, level, times, lows, highs, file);
     match written {

@@ -1,12 +1,5 @@
 pub mod Promises
-pub mod Reading
-pub mod ReadingFieldLaws
-pub mod ReadingRangeLaws
-pub mod ReadingFileLaws
-pub mod ReadingFillLaws
-pub mod ReadingPromiseLaws
-pub mod Writing
-pub mod WritingLaws
+pub mod ReadPromiseLaws
 pub mod WritingAnswers
 pub mod BothWays
 pub mod Refusals

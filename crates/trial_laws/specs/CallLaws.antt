@@ -5,11 +5,10 @@
 --     along                                 the same of a call that is equal to such a call
 --     both-accepted                         a call in two steps that is accepted has both accepted
 --     then-then, then-same, then-accepted   calls one after the other
+--     then-known                            what follows an answer matters only where it is accepted
 --     rows-then                             rows are tried one list after the other
---     rows-between, ends-at-row             rows that do not hold change nothing, and one that holds ends the trial
 --     bind-accepted, bind-refused           what is accepted in two steps is accepted in each; what only the first step can refuse
---     forget                                a trial is known by what follows it
---     bind-refusal, bind-zero               the number of two trials, one after the other; where it is 0 and each is accepted at 0, both are accepted
+--     bind-refusal                          the number of two trials, one after the other
 --     number-row                            the number of a trial, as a row
 --     accepted-is, refused-is               equal answers have equal results, and equal numbers
 --
@@ -18,12 +17,12 @@
 use mathlib.Core.Path.{_≡_, refl, sym, ap, _∙_}
 use mathlib.Core.Logic.{_↔_}
 use mathlib.Core.Bool.{Bool, true, false, not}
-use mathlib.Core.List.{List, [], _∷_, _++_, append-assoc}
+use mathlib.Core.List.{List, [], _∷_, _++_}
 use Prim.Native.Nat.{ℕ}
 use borrow.Author.Tests.{eqb-true}
 use lib.Dec.{eqb}
 use Rattle.definitions.specs.Answers.{Answer, refused, accepted, _>>=_, Row, _if_, firstRow, refusal}
-use Rattle.trial_laws.specs.Rows.{NoneHolds, FirstAt, refused-not-accepted, first-row-accepted, first-row-exact, first-row-append, first-row-rest}
+use Rattle.trial_laws.specs.Rows.{NoneHolds, FirstAt, refused-not-accepted, first-row-accepted, first-row-exact, first-row-append}
 
 pub accepted-is : {A : Type 0} {a b : A} → accepted a ≡ accepted b → a ≡ b
 accepted-is e = cc
@@ -47,10 +46,13 @@ unfolding _>>=_
 then-then (refused n) f g = refl
 then-then (accepted a) f g = refl
 
-pub then-same : {A B : Type 0} (x : Answer A) (f g : A → Answer B) → ((a : A) → f a ≡ g a) → (x >>= f) ≡ (x >>= g)
+pub then-known : {A B : Type 0} (x : Answer A) (f g : A → Answer B) → ((a : A) → x ≡ accepted a → f a ≡ g a) → (x >>= f) ≡ (x >>= g)
 unfolding _>>=_
-then-same (refused n) f g h = refl
-then-same (accepted a) f g h = h a
+then-known (refused n) f g h = refl
+then-known (accepted a) f g h = h a refl
+
+pub then-same : {A B : Type 0} (x : Answer A) (f g : A → Answer B) → ((a : A) → f a ≡ g a) → (x >>= f) ≡ (x >>= g)
+then-same x f g h = then-known x f g (λ a e. h a)
 
 pub then-accepted : {A : Type 0} (x : Answer A) → (x >>= λ a. accepted a) ≡ x
 unfolding _>>=_
@@ -60,18 +62,6 @@ then-accepted (accepted a) = refl
 -- rows are tried, then others, then a result is given
 pub rows-then : {A : Type 0} (rows more : List Row) (a : A) → (firstRow rows >>= λ ok. firstRow more >>= λ ok. accepted a) ≡ (firstRow (rows ++ more) >>= λ ok. accepted a)
 rows-then rows more a = sym (then-then (firstRow rows) (λ ok. firstRow more) (λ ok. accepted a)) ∙ ap (λ x. x >>= λ ok. accepted a) (sym (first-row-append rows more))
-
--- rows that do not hold may stand between others
-pub rows-between : (rows between more : List Row) → NoneHolds between → firstRow (rows ++ between ++ more) ≡ firstRow (rows ++ more)
-unfolding _>>=_
-rows-between rows between more h = ap firstRow (append-assoc rows between more) ∙ first-row-rest rows (between ++ more) more (first-row-append between more ∙ ap (λ (x : Answer Unit). x >>= λ ok. firstRow more) (first-row-accepted between .1 h))
-
--- a row that holds ends the trial, if none before it did
-pub ends-at-row : {A : Type 0} (rows : List Row) (n : ℕ) (more : List Row) (a : A) → (firstRow (rows ++ n if true ∷ more) >>= λ ok. accepted a) ≡ (firstRow rows >>= λ ok. refused n)
-unfolding firstRow _>>=_
-ends-at-row [] n more a = refl
-ends-at-row ((m if true) ∷ rows) n more a = refl
-ends-at-row ((m if false) ∷ rows) n more a = ends-at-row rows n more a
 
 -- a call that gives a after an answer gives the answer's refusals, and no other
 same-refusal : {A : Type 0} (x : Answer Unit) (a : A) (n : ℕ) → ((x >>= λ ok. accepted a) ≡ refused n) ↔ (x ≡ refused n)
@@ -113,18 +103,10 @@ module _ {A B : Type 0} (rows : List Row) (a : A) (tells : A → B) {answer : An
 
 -- ---- trials, which are accepted with nothing
 
-module _ (answer : Answer Unit) where
-  pub forget : {B : Type 0} (b : B) → ((answer >>= λ ok. accepted b) >>= λ c. accepted tt) ≡ answer
-  unfolding _>>=_
-  forget b = elim answer [ refused n ↦ refl | accepted ok ↦ refl ]
-
-  pub bind-refusal : (f g : Answer Unit) → refusal f ≡ refusal g → refusal (answer >>= λ ok. f) ≡ refusal (answer >>= λ ok. g)
-  unfolding _>>=_
-  bind-refusal f g e = elim answer [ refused n ↦ refl | accepted ok ↦ e ]
-
-  pub bind-zero : (f : Answer Unit) → (refusal answer ≡ 0 → answer ≡ accepted tt) → (refusal f ≡ 0 → f ≡ accepted tt) → refusal (answer >>= λ ok. f) ≡ 0 → (answer >>= λ ok. f) ≡ accepted tt
-  unfolding _>>=_
-  bind-zero f a b = elim answer as (λ x. (refusal x ≡ 0 → x ≡ accepted tt) → refusal (x >>= λ ok. f) ≡ 0 → (x >>= λ ok. f) ≡ accepted tt) [ refused n ↦ λ h. h | accepted ok ↦ λ h. b ] a
+pub bind-refusal : (answer f g : Answer Unit) → refusal f ≡ refusal g → refusal (answer >>= λ ok. f) ≡ refusal (answer >>= λ ok. g)
+unfolding _>>=_
+bind-refusal (refused n) f g e = refl
+bind-refusal (accepted ok) f g e = e
 
 pub number-row : (n : ℕ) → refusal (firstRow (n if not (eqb n 0) ∷ [])) ≡ n
 unfolding refusal firstRow

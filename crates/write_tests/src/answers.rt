@@ -24,7 +24,7 @@ fn tell_answer(answer: WriteAnswer) {
 
 // Writes a file, and the rest of a line.
 pub fn tell_write(
-    address: u16,
+    address: u32,
     level: i32,
     times: &[u32],
     lows: &[i32],

@@ -24,7 +24,7 @@ fn write_most(made: &[u8], file: &mut [u8]) {
 
 pub fn most(file: &mut [u8]) {
     let mut made = [0u8; WRITE_ROOM];
-    put_many(&mut made, 4096);
+    put_many(&mut made, 65535, 4096);
     write_most(&made, file);
     read_back(file, &made);
 }

@@ -4,7 +4,7 @@ use testing::telling::say;
 use trace_testing::telling::number;
 use trace_testing::telling::signed_number;
 
-fn title_of_values(address: u16, level: i32, time: u32, low: i32, high: i32) {
+fn title_of_values(address: u32, level: i32, time: u32, low: i32, high: i32) {
     say(b"write address");
     number(address as u64);
     say(b" level");
@@ -17,7 +17,7 @@ fn title_of_values(address: u16, level: i32, time: u32, low: i32, high: i32) {
 }
 
 // Two ranges, the first at the time 5.
-fn write_two(address: u16, level: i32, time: u32, low: i32, high: i32, file: &mut [u8]) {
+fn write_two(address: u32, level: i32, time: u32, low: i32, high: i32, file: &mut [u8]) {
     let times = [5u32, time];
     let lows = [low; 2];
     let highs = [high; 2];
@@ -25,11 +25,25 @@ fn write_two(address: u16, level: i32, time: u32, low: i32, high: i32, file: &mu
     tell_write(address, level, &times, &lows, &highs, file);
 }
 
-fn addresses_and_levels(file: &mut [u8]) {
+// The ends of the addresses in one byte and of those in two.
+fn addresses(file: &mut [u8]) {
     write_two(0, 0, 6, 0, 0, file);
-    write_two(1, -268435456, 6, 0, 0, file);
-    write_two(255, 268435456, 6, 0, 0, file);
+    write_two(1, 0, 6, 0, 0, file);
+    write_two(255, 0, 6, 0, 0, file);
     write_two(256, 0, 6, 0, 0, file);
+    write_two(65535, 0, 6, 0, 0, file);
+}
+
+// Numbers above these; cut to 16 bits, the last two would be addresses.
+fn above_addresses(file: &mut [u8]) {
+    write_two(65536, 0, 6, 0, 0, file);
+    write_two(65543, 0, 6, 0, 0, file);
+    write_two(4294967295, 0, 6, 0, 0, file);
+}
+
+fn levels(file: &mut [u8]) {
+    write_two(1, -268435456, 6, 0, 0, file);
+    write_two(65535, 268435456, 6, 0, 0, file);
     write_two(1, -268435457, 6, 0, 0, file);
     write_two(1, 268435457, 6, 0, 0, file);
 }
@@ -44,6 +58,8 @@ fn times_and_values(file: &mut [u8]) {
 }
 
 pub fn all(file: &mut [u8]) {
-    addresses_and_levels(file);
+    addresses(file);
+    above_addresses(file);
+    levels(file);
     times_and_values(file);
 }

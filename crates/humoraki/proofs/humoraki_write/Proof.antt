@@ -4,6 +4,7 @@ use mathlib.Core.Path.{ap, subst}
 use mir.Facts.{toZ-ofZ}
 use borrow.Author.Needs.{needs}
 use Rattle.definitions.specs.Ranges.{Lists}
+use Rattle.definitions.specs.Headers.{Header}
 use Rattle.trace.specs.Promises.{writeMeaning, WritePromise}
 use Rattle.humoraki.specs.Promises.{Counts, WriteLent, AfterWrite}
 use Rattle.humoraki.specs.PromiseLaws.{counts-accepted, counts-refused, after-write}
@@ -22,6 +23,9 @@ enum-known-answer-2 c = search needs
 abbrev entry : tie.After-write → tie.Start
 entry c = c .before .before .before .before
 
+abbrev header : tie.Start → Header
+header c = record { address = c .args .address; service = record { level = c .args .level } }
+
 abbrev lists : tie.Start → Lists
 lists c = record { times = c .args .times .now; lows = c .args .lows .now; highs = c .args .highs .now }
 
@@ -36,11 +40,11 @@ refused-at c = c .before .before .before .before .before
 
 -- the promise, from the count and the number that the answer is given as; the level is passed on as bits
 after : (c : tie.After-write) {count number : ℕ} → Counts (writeMeaning (c .write .result)) (λ n. n) (lent (entry c) .count) count number
-    → AfterWrite (entry c .args .address) (entry c .args .level) (lists (entry c)) (lent (entry c)) (record { file = c .write .last .1 .1 .1 .1 .1 .0; count = count }) number
+    → AfterWrite (header (entry c)) (lists (entry c)) (lent (entry c)) (record { file = c .write .last .1 .1 .1 .1 .1 .0; count = count }) number
 after c counts =
     let s = entry c in
-    after-write (s .args .address) (s .args .level) (lists s) (lent s) (record { file = c .write .last .1 .1 .1 .1 .1 .0; count = _ })
-    (subst (λ level. WritePromise (s .args .address) level (lists s) (lent s .file) (c .write .last .1 .1 .1 .1 .1 .0) (c .write .result)) (toZ-ofZ (s .fits .level)) (c .write .ensures))
+    after-write (header s) (lists s) (lent s) (record { file = c .write .last .1 .1 .1 .1 .1 .0; count = _ })
+    (subst (λ level. WritePromise (record { address = s .args .address; service = record { level = level } }) (lists s) (lent s .file) (c .write .last .1 .1 .1 .1 .1 .0) (c .write .result)) (toZ-ofZ (s .fits .level)) (c .write .ensures))
     counts
 
 same-length : tie.Need-same-length
