@@ -36,7 +36,7 @@ fn one_byte() {
     read_field(1, 255, 0);
 }
 
-// The last three are what one byte would hold.
+// The last three would fit into one byte, so they are refused.
 fn two_bytes() {
     read_field(2, 1, 0);
     read_field(2, 4, 210);

@@ -49,7 +49,7 @@ fn read_many(address: u32, least: usize, end: usize) {
     read_each(&file, least, end, &mut times, &mut lows, &mut highs);
 }
 
-// Both, with an address of one byte and of two; the large file from one byte less than 4,096 ranges have.
+// Both, with an address of one byte and of two; the large file from one byte less than one with 4,096 ranges has.
 pub fn files() {
     read_ends(1, 42);
     read_ends(256, 43);

@@ -3,3 +3,4 @@ pub mod ReadPromiseLaws
 pub mod WritingAnswers
 pub mod BothWays
 pub mod Refusals
+pub mod Addresses
