@@ -5,6 +5,7 @@
 --     Row, firstRow          a row of the scope's table of refusals, and the number of the first row that holds
 --     refusal                the number of a refusal, and 0 where the call is accepted: what a trial without a result gives
 --     filled                 what a lent slice holds after a call
+--     given                  what anything else that was lent is after a call
 --
 -- The order in which numbers are tried is the order of a list of rows.
 -- Assumes nothing.
@@ -40,3 +41,8 @@ refusal (accepted a) = 0
 unfoldable pub filled : {A B : Type 0} → Answer B → (B → List A) → List A → List A
 filled (refused n) entries old = old
 filled (accepted b) entries old = entries b ++ drop (length (entries b)) old
+
+-- its old value where the call is refused; else a value of the result
+unfoldable pub given : {A B : Type 0} → Answer B → (B → A) → A → A
+given (refused n) value old = old
+given (accepted b) value old = value b

@@ -5,16 +5,16 @@
 --
 -- Assumes nothing.
 use mathlib.Core.Path.{_≡_, refl}
-use Prim.Native.Nat.{ℕ}
+use Prim.Native.Nat.{ℕ, zero, suc}
 use mathlib.Core.List.{List, [], _∷_, _++_, map, getLastD}
-use lib.ListN.{replicate}
+use lib.ListN.{length, drop, replicate}
 use lib.IntN.{ℤ, pos, negℤ}
 use Rattle.integers.specs.Lists.{all, any, filter}
 use Rattle.integers.specs.Sorting.{insert, sorted}
 use Rattle.integers.specs.Least.{scan, first, firstByEnds}
 use Rattle.integers.specs.Gcd.{euclid, gcd}
 use Rattle.integers.specs.LowestTerms.{commonDivisor}
-use Rattle.definitions.specs.Spans.{segmentRoom, cornerRoom, readRoom, writeRoom}
+use Rattle.definitions.specs.Spans.{segmentRoom, cornerRoom, readRoom, writeRoom, panelRoom}
 use Rattle.definitions.specs.Times.{none, at}
 use Rattle.definitions.specs.Ranges.{Range, Lists, zipRanges, rangesOf}
 use Rattle.definitions.specs.Lines.{Line, reading, fitsRange, fits, sideAt, notBelow, atOrAbove, through, throughEnds, candidatesFrom, candidates, hasLine}
@@ -31,14 +31,20 @@ use Rattle.definitions.specs.HeaderFields.{addressOf, addressBody, level
 use Rattle.definitions.specs.TraceFile.{Trace, rangeOf, rangeForm, rangeKind, readFields, readFile, writeRanges, writeFile}
 use Rattle.definitions.specs.Calls.{Fit, bounded, fitOf, readCall, writeCall, segmentCall, cornersCall}
 use Rattle.definitions.specs.Report.{ascii, digitsWithin, decimal, signedDecimal, timeText, lineText, outlookText, spanText, segmentLine, segmentLines, traceLine, refusedLine, traceText, reportText, report, reportRoom, reportCall}
+use Rattle.definitions.specs.Panels.{Panel, totalHeld, commonTaken, isAt, either, heldBy, zipTaken, taken, onPanel, kept, headRanges, lastTime, countedIn, occurrences, twice, outsideAddress, miscounted, badPanel, notPanel, unknown, crowded}
+use Rattle.definitions.specs.PanelCalls.{roomOf, panelRows, addRows, bumped, entriesAfter, putAt, added, addCall, headRangesCall}
+use Rattle.definitions.specs.declared.entries.Entry.{Entry}
 
--- Segment with a level and lists, Corners with k and lists, Read or the report with a file, or Write with an address, a level and no ranges; the lent slices are as long as they must be
+-- Segment with a level and lists, Corners with k and lists, Read or the report with a file, Write with an address, a level and no ranges,
+-- Add with a panel, an address and a range, or Head ranges with a panel and an address; the slices to be filled are as long as they must be
 pub data Call : Type 0 where
   segment : ℤ → Lists → Call
   cornersAfter : ℕ → Lists → Call
   read : List ℕ → Call
   write : ℕ → ℤ → Call
   print : List ℕ → Call
+  add : Panel → ℕ → Range → Call
+  rangesAt : Panel → ℕ → Call
 
 pub data Result : Type 0 where
   segmented : Answer (List Segment) → Result
@@ -46,6 +52,8 @@ pub data Result : Type 0 where
   opened : Answer Trace → Result
   written : Answer (List ℕ) → Result
   printed : Answer (List ℕ) → Result
+  tried : Answer Panel → Result
+  listed : Answer (List Range) → Result
 
 pub run : Call → Result
 run (segment level ls) = segmented (segmentCall (replicate rowLength segmentRoom) (record { level = level }) ls)
@@ -53,6 +61,8 @@ run (cornersAfter k ls) = cornered (cornersCall (replicate 3 cornerRoom) k ls)
 run (read bs) = opened (readCall (replicate 3 readRoom) bs)
 run (write address level) = written (writeCall (writeRoom ∷ []) (record { address = address; service = record { level = level } }) (record { times = []; lows = []; highs = [] }))
 run (print bs) = printed (reportCall (reportRoom ∷ []) bs)
+run (add s a r) = tried (addCall s a r)
+run (rangesAt s a) = listed (headRangesCall (replicate 3 panelRoom) s a)
 
 infix 85 _gives_
 pub data Case : Type 0 where
@@ -111,6 +121,44 @@ rangeField t u v = 3 ∷ 0 ∷ 12 ∷ 0 ∷ 0 ∷ 0 ∷ t ∷ 0 ∷ 0 ∷ 0 ∷ 
 abbrev sampleFile : List ℕ
 sampleFile = header11 ++ rangeField 10 0 4 ++ rangeField 20 4 8 ++ rangeField 30 10 14 ++ rangeField 40 9 11 ++ rangeField 50 9 12
 
+abbrev entry : ℕ → ℕ → Entry
+entry a n = record { address = a; held = n }
+
+abbrev range : ℕ → ℤ → ℤ → Range
+range t u v = record { time = t; low = u; high = v }
+
+-- a list of 4,096 entries that begins with these; the others are x
+abbrev listOf : {A : Type 0} → List A → A → List A
+listOf xs x = xs ++ drop (length xs) (replicate panelRoom x)
+
+-- a panel whose first places have these addresses, times, lows and highs
+abbrev panel : List Entry → List ℕ → List ℕ → List ℤ → List ℤ → Panel
+panel es bs ts us vs = record { entries = es; places = record { addresses = listOf bs 0; times = listOf ts 0; lows = listOf us (pos 0); highs = listOf vs (pos 4) } }
+
+-- ranges of head 7 at 10 and 20, of head 9 at 15 and 30, in order of time, each from 0 to 4; with these entries
+abbrev four : List Entry → Panel
+four es = panel es (7 ∷ 9 ∷ 7 ∷ 9 ∷ []) (10 ∷ 15 ∷ 20 ∷ 30 ∷ []) [] []
+
+abbrev sevenAndNine : List Entry
+sevenAndNine = entry 7 2 ∷ entry 9 2 ∷ []
+
+-- heads n to 1, which hold nothing
+abbrev heads : ℕ → List Entry
+heads zero = []
+heads (suc n) = entry (suc n) 0 ∷ heads n
+
+-- a panel on which nothing is held
+abbrev started : List Entry → Panel
+started es = panel es [] [] [] []
+
+-- head 1 holds 32 ranges, head 2 so many
+abbrev beside : ℕ → Panel
+beside n = panel (entry 1 32 ∷ entry 2 n ∷ []) (replicate 32 1 ++ replicate n 2) [] [] []
+
+-- the same where the list of highs is one entry too short
+abbrev short : List Entry → Panel
+short es = record { entries = es; places = record { addresses = listOf [] 0; times = listOf [] 0; lows = listOf [] (pos 0); highs = replicate 4095 (pos 4) } }
+
 -- ---- what is expected
 
 abbrev fitIs : List Line → Result
@@ -130,6 +178,9 @@ bytesAre bytes = written (accepted bytes)
 
 abbrev textIs : List ℕ → Result
 textIs bytes = printed (accepted bytes)
+
+abbrev panelIs : Panel → Result
+panelIs s = tried (accepted s)
 
 -- ---- the table
 
@@ -170,8 +221,28 @@ table =
     ∷ print (header11 ++ rangeField 10 0 4) gives textIs (ascii "detector 7 level 20 ranges 1 segments 1\nsegment 1 from 10 to 10 ranges 1 open\n")
     ∷ print (header12 4 210) gives textIs (ascii "detector 1234 level 20 ranges 0 segments 0\n")
     ∷ print [] gives textIs (ascii "refused 1\n")
+    ∷ add (four sevenAndNine) 7 (range 25 (pos 1) (pos 3)) gives panelIs
+    (panel (entry 7 3 ∷ entry 9 2 ∷ []) (7 ∷ 9 ∷ 7 ∷ 9 ∷ 7 ∷ []) (10 ∷ 15 ∷ 20 ∷ 30 ∷ 25 ∷ []) (pos 0 ∷ pos 0 ∷ pos 0 ∷ pos 0 ∷ pos 1 ∷ []) (pos 4 ∷ pos 4 ∷ pos 4 ∷ pos 4 ∷ pos 3 ∷ []))
+    ∷ add (four sevenAndNine) 7 (range 20 (pos 1) (pos 3)) gives tried (refused 6)
+    ∷ add (four sevenAndNine) 65543 (range 25 (pos 4) (pos 3)) gives tried (refused 12)
+    ∷ add (beside 2079) 1 (range 1 (pos 0) (pos 4)) gives panelIs (panel (entry 1 33 ∷ entry 2 2079 ∷ []) (replicate 32 1 ++ replicate 2079 2 ++ (1 ∷ [])) (replicate 2111 0 ++ (1 ∷ [])) [] [])
+    ∷ add (beside 2080) 1 (range 1 (pos 0) (pos 4)) gives tried (refused 13)
+    ∷ add (beside 2080) 1 (range 0 (pos 0) (pos 4)) gives tried (refused 6)
+    ∷ add (beside 2081) 1 (range 1 (pos 0) (pos 4)) gives tried (refused 14)
+    ∷ add (started []) 1 (range 1 (pos 0) (pos 4)) gives tried (refused 14)
+    ∷ add (started (heads 64)) 65 (range 1 (pos 0) (pos 4)) gives tried (refused 12)
+    ∷ add (started (heads 65)) 65 (range 1 (pos 0) (pos 4)) gives tried (refused 14)
+    ∷ add (started (entry 7 0 ∷ entry 9 0 ∷ entry 7 0 ∷ [])) 9 (range 1 (pos 0) (pos 4)) gives tried (refused 14)
+    ∷ add (started (entry 0 0 ∷ [])) 0 (range 1 (pos 0) (pos 4)) gives tried (refused 14)
+    ∷ add (started (entry 65543 0 ∷ [])) 65543 (range 1 (pos 0) (pos 4)) gives tried (refused 14)
+    ∷ add (short []) 1 (range 1 (pos 0) (pos 4)) gives tried (refused 8)
+    ∷ add (four (entry 7 1 ∷ entry 9 3 ∷ [])) 8 (range 25 (pos 1) (pos 3)) gives tried (refused 14)
+    ∷ add (four (entry 7 4294967295 ∷ entry 9 4294967295 ∷ [])) 8 (range 25 (pos 1) (pos 3)) gives tried (refused 14)
+    ∷ rangesAt (four sevenAndNine) 7 gives listed (accepted (range 10 (pos 0) (pos 4) ∷ range 20 (pos 0) (pos 4) ∷ []))
+    ∷ rangesAt (four sevenAndNine) 8 gives listed (refused 12)
+    ∷ rangesAt (four (entry 7 1 ∷ entry 9 3 ∷ [])) 7 gives listed (refused 14)
     ∷ []
 
 pub table-holds : map (λ c. run (callOf c)) table ≡ map resultOf table
-unfolding table run callOf resultOf all any filter reading fitsRange fits sideAt notBelow atOrAbove through throughEnds candidatesFrom candidates hasLine euclid gcd commonDivisor reduced before side between betweenSome insert sorted fitting extreme getLastD cornerOrder corners cutFrom cut lastRun segments runningAfter scan firstByEnds first someTime allTime outlookOf endTime outlook segmentOf segmentsOf _>>=_ firstRow outside badAddress notAbove rangeRows rangesRows tooShort zipRanges rangesOf differ listRows writeRows segmentRows cornerRows word bytes4 signed unsigned field fieldTag fieldSize fieldBody fieldRest fieldRows takeField addressOf addressBody levelOf addressKind levelKind readHeader writeHeader rangeOf rangeForm rangeKind readFields readFile writeRanges writeFile fitOf readCall writeCall segmentCall cornersCall digitsWithin decimal signedDecimal timeText lineText outlookText spanText segmentLine segmentLines traceLine refusedLine traceText reportText report reportCall
+unfolding table run callOf resultOf all any filter reading fitsRange fits sideAt notBelow atOrAbove through throughEnds candidatesFrom candidates hasLine euclid gcd commonDivisor reduced before side between betweenSome insert sorted fitting extreme getLastD cornerOrder corners cutFrom cut lastRun segments runningAfter scan firstByEnds first someTime allTime outlookOf endTime outlook segmentOf segmentsOf _>>=_ firstRow outside badAddress notAbove rangeRows rangesRows tooShort zipRanges rangesOf differ listRows writeRows segmentRows cornerRows word bytes4 signed unsigned field fieldTag fieldSize fieldBody fieldRest fieldRows takeField addressOf addressBody levelOf addressKind levelKind readHeader writeHeader rangeOf rangeForm rangeKind readFields readFile writeRanges writeFile fitOf readCall writeCall segmentCall cornersCall digitsWithin decimal signedDecimal timeText lineText outlookText spanText segmentLine segmentLines traceLine refusedLine traceText reportText report reportCall totalHeld commonTaken isAt either heldBy zipTaken taken onPanel kept headRanges lastTime countedIn occurrences twice outsideAddress miscounted badPanel notPanel unknown crowded roomOf panelRows addRows bumped entriesAfter putAt added addCall headRangesCall
 table-holds = refl

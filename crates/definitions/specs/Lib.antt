@@ -18,4 +18,6 @@ pub mod HeaderFields
 pub mod TraceFile
 pub mod Calls
 pub mod Report
+pub mod Panels
+pub mod PanelCalls
 pub mod Cases

@@ -4,7 +4,10 @@
 --     mostTime, noTime                 times run from 0 to 4,294,967,295; the number after that stands for a time that there is not
 --     mostRanges                       a trace has 0 to 4,096 ranges
 --     leastAddress, mostAddress        a detector's address
+--     mostHeads                        a panel has 1 to 64 entries
+--     surePlaces, commonPlaces         each head is sure of 32 places; all heads share 2,048 more
 --     readRoom, writeRoom, segmentRoom, cornerRoom   the least length of each slice that a call fills
+--     panelRoom                        the least length of each list of a panel, and of each list into which a head's ranges go
 --
 -- Assumes nothing.
 use Prim.Native.Nat.{ℕ}
@@ -42,3 +45,18 @@ segmentRoom = 2048
 -- Corners: p, q and d
 abbrev pub cornerRoom : ℕ
 cornerRoom = 8192
+
+-- ---- a panel
+
+abbrev pub mostHeads : ℕ
+mostHeads = 64
+
+abbrev pub surePlaces : ℕ
+surePlaces = 32
+
+abbrev pub commonPlaces : ℕ
+commonPlaces = 2048
+
+-- as many places as there are: 64 · 32 + 2,048
+abbrev pub panelRoom : ℕ
+panelRoom = 4096

@@ -30,3 +30,14 @@ pub const SEGMENT_ROOM: usize = 2048;
 
 // The least length of each slice that Corners fills: k ranges have at most 2k corners.
 pub const CORNER_ROOM: usize = 8192;
+
+// How many entries a panel has at most.
+pub const MOST_HEADS: usize = 64;
+
+// The places of which each head is sure, and the others, which all heads share.
+pub const SURE_PLACES: u32 = 32;
+
+pub const COMMON_PLACES: u64 = 2048;
+
+// The least length of each list of a panel, and of each list into which a head's ranges go.
+pub const PANEL_ROOM: usize = 4096;

@@ -3,7 +3,7 @@
 --     number-told, value-told, counts-told                    what tells of a result gives the same number, lent number and lent count as the result
 --     number-accepted, given-accepted, counts-accepted        what an accepted answer gives
 --     number-refused, given-refused, counts-refused           what a refused one gives
---     after-read, after-write, after-segment, after-corners, after-report   the promise of each call, from that of the call below and the numbers that its answer is given as
+--     after-read, after-write, after-segment, after-corners, after-report, after-add, after-head-ranges   the promise of each call, from that of the call below and the numbers that its answer is given as
 --
 -- Assumes nothing.
 use Prim.Native.Nat.{ℕ}
@@ -11,10 +11,13 @@ use mathlib.Core.Path.{_≡_, refl, sym, ap, _∙_}
 use mathlib.Core.List.{List}
 use lib.IntN.{ℤ}
 use lib.ListN.{length}
-use Rattle.definitions.specs.Ranges.{Lists}
+use Rattle.definitions.specs.Ranges.{Range, Lists}
 use Rattle.definitions.specs.Headers.{Header}
-use Rattle.definitions.specs.Answers.{Answer, refused, accepted, _>>=_, refusal}
+use Rattle.definitions.specs.Answers.{Answer, refused, accepted, _>>=_, refusal, given}
 use Rattle.definitions.specs.Calls.{Fit, open-strip, bounded}
+use Rattle.definitions.specs.Panels.{Panel}
+use Rattle.definitions.specs.PanelCalls.{addCall}
+use Rattle.trial_laws.specs.CallLaws.{refusal-tells}
 use Rattle.trace.specs.declared.ReadAnswer.{ReadAnswer}
 use Rattle.trace.specs.declared.WriteAnswer.{WriteAnswer}
 use Rattle.trace.specs.Promises.{readMeaning, writeMeaning, recordOf, writeInto, ReadPromise, WritePromise}
@@ -24,12 +27,10 @@ use Rattle.drift.specs.SegmentPromise.{segmentMeaning, SegmentPromise}
 use Rattle.drift.specs.CornersPromise.{countOf, cornersIn, cornersMeaning, CornersPromise}
 use Rattle.report_text.specs.declared.ReportAnswer.{ReportAnswer}
 use Rattle.report_text.specs.ReportPromise.{reportMeaning, ReportPromise}
-use Rattle.humoraki.specs.Promises.{given, Counts, ReadLent, readAnswer, AfterRead, WriteLent, AfterWrite, SegmentLent, segmentAnswer, AfterSegment, CornersLent, cornersAnswer, cornerNumber, AfterCorners, ReportLent, reportAnswer, AfterReport}
-
-refusal-tells : {A B : Type 0} (tells : B → A) (below : Answer B) → refusal (below >>= λ b. accepted (tells b)) ≡ refusal below
-unfolding _>>=_ refusal
-refusal-tells tells (refused n) = refl
-refusal-tells tells (accepted b) = refl
+use Rattle.panel.specs.declared.AddAnswer.{AddAnswer}
+use Rattle.panel.specs.declared.HeadRangesAnswer.{HeadRangesAnswer}
+use Rattle.panel.specs.Promises.{addMeaning, AddPromise, headRangesMeaning, HeadRangesPromise}
+use Rattle.humoraki.specs.Promises.{Counts, ReadLent, readAnswer, AfterRead, WriteLent, AfterWrite, SegmentLent, segmentAnswer, AfterSegment, CornersLent, cornersAnswer, cornerNumber, AfterCorners, ReportLent, reportAnswer, AfterReport, AfterAdd, HeadRangesLent, headRangesAnswer, AfterHeadRanges}
 
 given-tells : {A B C : Type 0} (tells : B → A) (below : Answer B) (of-told : A → C) (of-result : B → C) → ((b : B) → of-told (tells b) ≡ of-result b) → (old : C)
     → given (below >>= λ b. accepted (tells b)) of-told old ≡ given below of-result old
@@ -118,3 +119,16 @@ pub after-report : (file : List ℕ) (old new : ReportLent) {answer : ReportAnsw
     → Counts (reportMeaning answer) (λ n. n) (old .count) (new .count) r → AfterReport file old new r
 after-report file old new h counts =
     record { counted = counts-told length (reportAnswer file old) (h .answer-is) (λ n. n) length (λ bytes. refl) (old .count) counts; text-is = h .text-is }
+
+pub after-add : (old : Panel) (a : ℕ) (r : Range) (new : Panel) {answer : AddAnswer} {number : ℕ} → AddPromise old a r answer new → number ≡ refusal (addMeaning answer) → AfterAdd old a r new number
+after-add old a r new h number = record { number-is = number-told (λ s. tt) (addCall old a r) (h .answer-is) number; panel-is = h .panel-is }
+
+pub after-head-ranges : (s : Panel) (a : ℕ) (old new : HeadRangesLent) {answer : HeadRangesAnswer} {r : ℕ} → HeadRangesPromise s a (old .lists) (new .lists) answer
+    → Counts (headRangesMeaning answer) (λ n. n) (old .count) (new .count) r → AfterHeadRanges s a old new r
+after-head-ranges s a old new h counts =
+    record {
+      counted = counts-told length (headRangesAnswer s a old) (h .answer-is) (λ n. n) length (λ rs. refl) (old .count) counts;
+      times-are = h .times-are;
+      lows-are = h .lows-are;
+      highs-are = h .highs-are;
+    }

@@ -1,10 +1,9 @@
 -- What the library promises: the number that each call gives and the contents of everything that it was lent, by equations with the scope's calls.
 --
---     given                                                what a lent number holds after a call
 --     Counts                                               the number and the lent count after a call with a count
 --     cornerNumber                                         what the answer of Corners tells of a fit, as a count
---     ReadLent, WriteLent, SegmentLent, CornersLent, ReportLent   what a caller lends to be filled or set
---     AfterRead, AfterWrite, AfterSegment, AfterCorners, AfterReport   the number, and what holds of all that after the call
+--     ReadLent, WriteLent, SegmentLent, CornersLent, ReportLent, HeadRangesLent   what a caller lends to be filled or set; Add is lent a panel
+--     AfterRead, AfterWrite, AfterSegment, AfterCorners, AfterReport, AfterAdd, AfterHeadRanges   the number, and what holds of all that after the call
 --
 -- The number is 0 where the call is accepted. Where it is refused, everything that was lent holds its old contents: so say `given` and `filled`.
 --
@@ -16,21 +15,20 @@ use mathlib.Core.Path.{_≡_}
 use mathlib.Core.List.{List, [], _∷_, map}
 use lib.IntN.{ℤ}
 use lib.ListN.{length}
-use Rattle.definitions.specs.Ranges.{Lists}
+use Rattle.definitions.specs.Ranges.{Range, Lists}
 use Rattle.definitions.specs.Headers.{Header}
 use Rattle.definitions.specs.Results.{Segment, numbersOf}
-use Rattle.definitions.specs.Answers.{Answer, refused, accepted, refusal, filled}
+use Rattle.definitions.specs.Answers.{Answer, refusal, filled, given}
 use Rattle.definitions.specs.TraceFile.{Trace}
 use Rattle.definitions.specs.Calls.{Fit, segmentCall, cornersCall}
 use Rattle.definitions.specs.Report.{reportCall}
+use Rattle.definitions.specs.Panels.{Panel}
+use Rattle.definitions.specs.PanelCalls.{headRangesCall}
 use Rattle.trace.specs.Promises.{readInto, writeInto}
 use Rattle.drift.specs.Columns.{Columns, EachColumn, lengths}
 use Rattle.drift.specs.CornersPromise.{CornerCount, unbounded, corner-count, cornersIn, threeLengths}
-
--- its old value where the call is refused; else a value of the result
-unfoldable pub given : {A B : Type 0} → Answer B → (B → A) → A → A
-given (refused n) value old = old
-given (accepted b) value old = value b
+use Rattle.panel.specs.Promises.{lengthsOf}
+use Rattle.panel.specs.Admissions.{AddedAs}
 
 pub record Counts {B : Type 0} (answer : Answer B) (size : B → ℕ) (old new number : ℕ) : Type 0 where
   pub number-is : number ≡ refusal answer
@@ -115,3 +113,23 @@ reportAnswer file old = reportCall (length (old .text) ∷ []) file
 pub record AfterReport (file : List ℕ) (old new : ReportLent) (r : ℕ) : Type 0 where
   pub counted : Counts (reportAnswer file old) length (old .count) (new .count) r
   pub text-is : new .text ≡ filled (reportAnswer file old) (λ bytes. bytes) (old .text)
+
+-- ---- Add: the promise of the call below, by the number alone
+
+abbrev pub AfterAdd : Panel → ℕ → Range → Panel → ℕ → Type 0
+AfterAdd old a r new number = AddedAs old a r number new
+
+-- ---- Head ranges
+
+pub record HeadRangesLent : Type 0 where
+  pub lists : Lists
+  pub count : ℕ
+
+abbrev pub headRangesAnswer : Panel → ℕ → HeadRangesLent → Answer (List Range)
+headRangesAnswer s a old = headRangesCall (lengthsOf (old .lists)) s a
+
+pub record AfterHeadRanges (s : Panel) (a : ℕ) (old new : HeadRangesLent) (r : ℕ) : Type 0 where
+  pub counted : Counts (headRangesAnswer s a old) length (old .count) (new .count) r
+  pub times-are : new .lists .times ≡ filled (headRangesAnswer s a old) (map (λ (r : Range). r .time)) (old .lists .times)
+  pub lows-are : new .lists .lows ≡ filled (headRangesAnswer s a old) (map (λ (r : Range). r .low)) (old .lists .lows)
+  pub highs-are : new .lists .highs ≡ filled (headRangesAnswer s a old) (map (λ (r : Range). r .high)) (old .lists .highs)

@@ -1,16 +1,16 @@
 -- When the library gives which number, as theorems about the number that a caller holds.
 --
---     read-number, write-number, segment-number, corners-number, report-number   a number above 0 exactly if a row with it holds and no row that is tried earlier does
---     read-none, write-none, segment-none, corners-none, report-none             0 exactly if no row holds
+--     read-number, write-number, segment-number, corners-number, report-number, add-number, head-ranges-number   a number above 0 exactly if a row with it holds and no row that is tried earlier does
+--     read-none, write-none, segment-none, corners-none, report-none, add-none, head-ranges-none                 0 exactly if no row holds
 --
 -- Assumes nothing.
 use Prim.Native.Nat.{ℕ, _<_}
 use mathlib.Core.Path.{_≡_, refl, sym, ap, _∙_}
 use mathlib.Core.Logic.{_↔_}
-use mathlib.Core.List.{List, [], _∷_}
+use mathlib.Core.List.{List, [], _∷_, _++_}
 use lib.IntN.{ℤ}
 use lib.ListN.{length}
-use Rattle.definitions.specs.Ranges.{Lists, rangesOf}
+use Rattle.definitions.specs.Ranges.{Range, Lists, rangesOf}
 use Rattle.definitions.specs.Headers.{Header}
 use Rattle.definitions.specs.Segments.{runningAfter}
 use Rattle.definitions.specs.Results.{segmentsOf}
@@ -19,6 +19,8 @@ use Rattle.definitions.specs.Trial.{tooShort, writeRows, segmentRows, cornerRow
 use Rattle.definitions.specs.TraceFile.{writeFile}
 use Rattle.definitions.specs.Calls.{fitOf, writeCall, segmentCall, cornersCall}
 use Rattle.definitions.specs.Report.{report, reportRoom, reportCall}
+use Rattle.definitions.specs.Panels.{Panel, onPanel, headRanges}
+use Rattle.definitions.specs.PanelCalls.{roomOf, panelRows, addRows, added, addCall, headRangesCall}
 use Rattle.trial_laws.specs.Rows.{NoneHolds, FirstAt, refusal-above}
 use Rattle.trial_laws.specs.CallLaws.{call-refused, call-accepted}
 use Rattle.trace_laws.specs.FileRows.{readRows, fileTrace}
@@ -26,8 +28,9 @@ use Rattle.trace_laws.specs.RoundTrip.{traceOf}
 use Rattle.trace_laws.specs.TraceLaws.{read-by-rows}
 use Rattle.drift.specs.Columns.{lengths}
 use Rattle.drift.specs.CornersPromise.{threeLengths}
-use Rattle.humoraki.specs.Promises.{ReadLent, AfterRead, WriteLent, AfterWrite, SegmentLent, AfterSegment, CornersLent, AfterCorners, ReportLent, AfterReport}
-use Rattle.humoraki.specs.Zero.{Accepted, read-zero, write-zero, segment-zero, corners-zero, report-zero}
+use Rattle.panel.specs.Promises.{lengthsOf}
+use Rattle.humoraki.specs.Promises.{ReadLent, AfterRead, WriteLent, AfterWrite, SegmentLent, AfterSegment, CornersLent, AfterCorners, ReportLent, AfterReport, AfterAdd, HeadRangesLent, AfterHeadRanges}
+use Rattle.humoraki.specs.Zero.{Accepted, read-zero, write-zero, segment-zero, corners-zero, report-zero, add-zero, head-ranges-zero}
 
 -- the number of a call that tries its rows and then gives a result
 module _ {A : Type 0} (rows : List Row) (a : A) {answer : Answer A} (is : answer ≡ (firstRow rows >>= λ ok. accepted a)) {r : ℕ} where
@@ -95,3 +98,24 @@ module _ {file : List ℕ} {old new : ReportLent} {r : ℕ} (after : AfterReport
   pub report-none : (r ≡ 0) ↔ NoneHolds rows-of-report
   unfolding reportCall
   report-none = none-exactly rows-of-report (report file) refl (report-zero after)
+
+module _ {old : Panel} {a : ℕ} {range : Range} {new : Panel} {r : ℕ} (after : AfterAdd old a range new r) where
+  pub add-number : (n : ℕ) → 0 < n → (r ≡ n) ↔ FirstAt n (addRows old a range)
+  unfolding addCall
+  add-number = exactly (addRows old a range) (added old a range) refl (after .number-is)
+
+  pub add-none : (r ≡ 0) ↔ NoneHolds (addRows old a range)
+  unfolding addCall
+  add-none = none-exactly (addRows old a range) (added old a range) refl (add-zero after)
+
+module _ {s : Panel} {a : ℕ} {old new : HeadRangesLent} {r : ℕ} (after : AfterHeadRanges s a old new r) where
+  abbrev rows-of-head-ranges : List Row
+  rows-of-head-ranges = panelRows (roomOf (s .places) ++ lengthsOf (old .lists)) s a
+
+  pub head-ranges-number : (n : ℕ) → 0 < n → (r ≡ n) ↔ FirstAt n rows-of-head-ranges
+  unfolding headRangesCall
+  head-ranges-number = exactly rows-of-head-ranges (headRanges a (onPanel s)) refl (after .counted .number-is)
+
+  pub head-ranges-none : (r ≡ 0) ↔ NoneHolds rows-of-head-ranges
+  unfolding headRangesCall
+  head-ranges-none = none-exactly rows-of-head-ranges (headRanges a (onPanel s)) refl (head-ranges-zero after)

@@ -1,7 +1,7 @@
 -- The number that the library gives is 0 exactly where the call is accepted: no refusal has the number 0.
 --
 --     Accepted answer                                    the answer is accepted, with some result
---     read-zero, write-zero, segment-zero, corners-zero, report-zero   of each call
+--     read-zero, write-zero, segment-zero, corners-zero, report-zero, add-zero, head-ranges-zero   of each call
 --
 -- Assumes nothing.
 use Prim.Native.Nat.{ℕ, _<_}
@@ -12,18 +12,21 @@ use mathlib.Core.List.{List, [], _∷_}
 use native.Mathlib.Omega.{arith}
 use lib.IntN.{ℤ}
 use Rattle.definitions.specs.Times.{none}
-use Rattle.definitions.specs.Ranges.{Lists, rangesOf}
+use Rattle.definitions.specs.Ranges.{Range, Lists, rangesOf}
 use Rattle.definitions.specs.Headers.{Header}
 use Rattle.definitions.specs.Answers.{Answer, refused, accepted, _>>=_, Row, _if_, firstRow, refusal}
 use Rattle.definitions.specs.Trial.{rangesRows, listRows, writeRows, segmentRows, cornerRows}
 use Rattle.definitions.specs.Calls.{writeCall, segmentCall, cornersCall}
 use Rattle.definitions.specs.Report.{reportCall}
+use Rattle.definitions.specs.Panels.{Panel}
+use Rattle.definitions.specs.PanelCalls.{panelRows, addRows, addCall, headRangesCall}
 use Rattle.trial_laws.specs.Rows.{Numbered, Numbered-append, refused-not-accepted}
 use Rattle.trial_laws.specs.CallLaws.{refused-is, bind-refused}
 use Rattle.trial_laws.specs.ListTrial.{countRows, ranges-numbered}
 use Rattle.trace_laws.specs.TraceLaws.{read-number}
 use Rattle.trace.specs.Promises.{writeInto}
-use Rattle.humoraki.specs.Promises.{ReadLent, readAnswer, AfterRead, WriteLent, AfterWrite, SegmentLent, segmentAnswer, AfterSegment, CornersLent, cornersAnswer, AfterCorners, ReportLent, reportAnswer, AfterReport}
+use Rattle.panel.specs.AdmissionLaws.{all-numbered}
+use Rattle.humoraki.specs.Promises.{ReadLent, readAnswer, AfterRead, WriteLent, AfterWrite, SegmentLent, segmentAnswer, AfterSegment, CornersLent, cornersAnswer, AfterCorners, ReportLent, reportAnswer, AfterReport, AfterAdd, HeadRangesLent, headRangesAnswer, AfterHeadRanges}
 
 abbrev pub Accepted : {A : Type 0} → Answer A → Type 0
 Accepted {A} answer = (a : A) × (answer ≡ accepted a)
@@ -67,3 +70,11 @@ corners-zero {k} {ls} {old} h =
 pub report-zero : {file : List ℕ} {old new : ReportLent} {r : ℕ} → AfterReport file old new r → (r ≡ 0) ↔ Accepted (reportAnswer file old)
 unfolding reportCall
 report-zero {file} {old} h = zero-exactly (reportAnswer file old) (call-above _ _ (omega arith, tt)) (h .counted .number-is)
+
+pub add-zero : {old : Panel} {a : ℕ} {r : Range} {new : Panel} {number : ℕ} → AfterAdd old a r new number → (number ≡ 0) ↔ Accepted (addCall old a r)
+unfolding addCall
+add-zero {old} {a} {r} h = zero-exactly (addCall old a r) (call-above (addRows old a r) _ (all-numbered old a r)) (h .number-is)
+
+pub head-ranges-zero : {s : Panel} {a : ℕ} {old new : HeadRangesLent} {r : ℕ} → AfterHeadRanges s a old new r → (r ≡ 0) ↔ Accepted (headRangesAnswer s a old)
+unfolding headRangesCall panelRows
+head-ranges-zero {s} {a} {old} h = zero-exactly (headRangesAnswer s a old) (call-above _ _ (omega arith, (omega arith, (omega arith, tt)))) (h .counted .number-is)

@@ -1,9 +1,15 @@
 // What other languages link: the calls on numbers and slices. Each gives 0, or the number of a refusal,
 // and puts its counts and records into lent numbers: it never reads them, and sets them on success alone.
+ghost use mathlib.Core.Path.{_≡_};
+ghost use Rattle.definitions.specs.Answers.{refusal};
 ghost use Rattle.drift.specs.Columns.{columns};
-ghost use Rattle.humoraki.specs.Promises.{AfterRead, AfterWrite, AfterSegment, AfterCorners, AfterReport};
+ghost use Rattle.panel.specs.Promises.{addMeaning, headRangesMeaning};
+ghost use Rattle.humoraki.specs.Promises.{Counts, AfterRead, AfterWrite, AfterSegment, AfterCorners, AfterReport, AfterAdd, AfterHeadRanges};
+use definitions::entries::Entry;
 use drift::CornersAnswer;
 use drift::SegmentAnswer;
+use panel::AddAnswer;
+use panel::HeadRangesAnswer;
 use report_text::ReportAnswer;
 use trace::ReadAnswer;
 use trace::WriteAnswer;
@@ -146,4 +152,86 @@ pub extern "C" fn humoraki_report(file: &[u8], text: &mut [u8], count: &mut usiz
         }
         ReportAnswer::Refused(number) => number,
     }
+}
+
+// The number that an answer of Add is given as.
+fn add_number(answer: AddAnswer) -> u8
+    ensures { λ r. ⌜ r ≡ refusal (addMeaning answer) ⌝ }
+{
+    match answer {
+        AddAnswer::Accepted => 0,
+        AddAnswer::Refused(number) => number,
+    }
+}
+
+// One range more of one head, on a panel of many.
+#[no_mangle]
+pub extern "C" fn humoraki_add(
+    entries: &mut [Entry],
+    addresses: &mut [u32],
+    times: &mut [u32],
+    lows: &mut [i32],
+    highs: &mut [i32],
+    address: u32,
+    time: u32,
+    low: i32,
+    high: i32,
+) -> u8
+    ensures { λ r. ⌜ AfterAdd (record { entries = now (entries .entry); places = record { addresses = now (addresses .entry); times = now (times .entry); lows = now (lows .entry); highs = now (highs .entry) } }) address (record { time = time; low = low; high = high }) (record { entries = now (entries .exit); places = record { addresses = now (addresses .exit); times = now (times .exit); lows = now (lows .exit); highs = now (highs .exit) } }) r ⌝ }
+{
+    let answer = panel::add(
+        entries,
+        addresses,
+        times,
+        lows,
+        highs,
+        address,
+        time,
+        low,
+        high,
+    );
+    add_number(answer)
+}
+
+// The number that an answer of Head ranges is given as; the count is lent.
+fn tell_count(answer: HeadRangesAnswer, count: &mut usize) -> u8
+    ensures { λ r. ⌜ Counts (headRangesMeaning answer) (λ n. n) (now (count .entry)) (now (count .exit)) r ⌝ }
+{
+    match answer {
+        HeadRangesAnswer::Accepted(ranges) => {
+            *count = ranges;
+            0
+        }
+        HeadRangesAnswer::Refused(number) => number,
+    }
+}
+
+// The ranges of one head of a panel, and their count.
+#[no_mangle]
+pub extern "C" fn humoraki_head_ranges(
+    entries: &[Entry],
+    addresses: &[u32],
+    times: &[u32],
+    lows: &[i32],
+    highs: &[i32],
+    address: u32,
+    into_times: &mut [u32],
+    into_lows: &mut [i32],
+    into_highs: &mut [i32],
+    count: &mut usize,
+) -> u8
+    ensures { λ r. ⌜ AfterHeadRanges (record { entries = now (entries .entry); places = record { addresses = now (addresses .entry); times = now (times .entry); lows = now (lows .entry); highs = now (highs .entry) } }) address (record { lists = record { times = now («into_times» .entry); lows = now («into_lows» .entry); highs = now («into_highs» .entry) }; count = now (count .entry) }) (record { lists = record { times = now («into_times» .exit); lows = now («into_lows» .exit); highs = now («into_highs» .exit) }; count = now (count .exit) }) r ⌝ }
+{
+    let answer = panel::head_ranges(
+        entries,
+        addresses,
+        times,
+        lows,
+        highs,
+        address,
+        into_times,
+        into_lows,
+        into_highs,
+    );
+    tell_count(answer, count)
 }

@@ -9,6 +9,7 @@
 --     rows-then                             rows are tried one list after the other
 --     bind-accepted, bind-refused           what is accepted in two steps is accepted in each; what only the first step can refuse
 --     bind-refusal                          the number of two trials, one after the other
+--     refusal-tells                         an answer that tells of another's result has its number
 --     number-row                            the number of a trial, as a row
 --     accepted-is, refused-is               equal answers have equal results, and equal numbers
 --
@@ -88,6 +89,11 @@ pub bind-refused : {A B : Type 0} (answer : Answer A) (f : A → B) (n : ℕ) �
 unfolding _>>=_
 bind-refused (refused m) f n e = cc
 bind-refused (accepted a) f n e = refused-not-accepted (sym e)
+
+pub refusal-tells : {A B : Type 0} (tells : A → B) (below : Answer A) → refusal (below >>= λ a. accepted (tells a)) ≡ refusal below
+unfolding refusal _>>=_
+refusal-tells tells (refused n) = refl
+refusal-tells tells (accepted a) = refl
 
 -- an answer that tells of the result of a call on rows, by a part of it
 module _ {A B : Type 0} (rows : List Row) (a : A) (tells : A → B) {answer : Answer B} (is : answer ≡ ((firstRow rows >>= λ ok. accepted a) >>= λ b. accepted (tells b))) where

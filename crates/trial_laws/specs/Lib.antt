@@ -6,3 +6,4 @@ pub mod ListTrial
 pub mod Inside
 pub mod Accepted
 pub mod ByPlace
+pub mod ShortLists

@@ -1,0 +1,4 @@
+pub mod Walks
+pub mod PassedOn
+mod Shares
+mod Elements

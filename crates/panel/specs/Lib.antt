@@ -1,0 +1,12 @@
+pub mod Promises
+pub mod Tables
+pub mod TableLaws
+pub mod TableNumbers
+pub mod Admissions
+pub mod AdmissionLaws
+pub mod Copies
+pub mod HeadRangesLaws
+pub mod Refusals
+pub mod Courses
+pub mod RangesGiven
+pub mod PanelTheorems

@@ -1,0 +1,12 @@
+pub mod Entries
+pub mod Tallies
+pub mod OneMore
+pub mod PlainLists
+pub mod PanelRows
+pub mod StaysPanel
+pub mod Strangers
+pub mod AddLaws
+pub mod HeldLaws
+pub mod OwnRanges
+pub mod TwoHeads
+pub mod JoiningHeads
