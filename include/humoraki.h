@@ -1,5 +1,6 @@
 /*
- * Humoraki: the segments of a smoke detector's trace, and when the detector must be serviced.
+ * Humoraki: the segments of a smoke detector's trace, and when the detector must be serviced; the ranges of many
+ * detectors on one panel.
  *
  * Link with libhumoraki.a, which `rt staticlib humoraki` writes to target/staticlib/.
  *
@@ -11,19 +12,23 @@
  *    3   the length is none that the tag may have
  *    4   address, level, low or high outside its span, or in a file an address below 256 in two bytes
  *    5   low above high
- *    6   time not above the one before
+ *    6   time not above the one before; on a panel, the one before of the same head
  *    7   a 4,097th range
- *    8   a lent slice to be filled is too short
+ *    8   a lent slice to be filled, or a list of a panel, is too short
  *    9   k is 0 or above the number of ranges
  *   10   times, lows and highs differ in length
+ *   12   no entry of the panel has the address
+ *   13   the head holds 32 ranges or more, and the panel's common places are taken
+ *   14   not a panel: it has 0 entries or over 64, one address in two of them, or one outside its span; some head
+ *        does not hold as many ranges as its address has places; or over 2,048 common places are taken
  *
  * A slice is a pointer and the number of its entries. What C cannot say and a caller has to keep:
  *   - each pointer of a slice points to as many entries as the length beside it tells, aligned as its type asks; beside
  *     a length of 0 it may be null;
  *   - each pointer to a single number points to one, and is never null;
- *   - what a function fills or sets overlaps nothing else that it is lent.
+ *   - what a function fills, sets or changes overlaps nothing else that it is lent.
  * What a function fills or sets is never read, so it need not be initialised: it is written on success, and else left
- * alone.
+ * alone. A panel alone is both read and changed, by humoraki_add.
  * After success, entries past the reported count hold their old contents.
  */
 #ifndef HUMORAKI_H
@@ -42,6 +47,12 @@ extern "C" {
 #define HUMORAKI_SEGMENT_ROOM 2048  /* each column of a segment's row */
 #define HUMORAKI_CORNER_ROOM 8192   /* ps, qs, ds */
 #define HUMORAKI_REPORT_ROOM 524544 /* the text of a report: 256 bytes for each of 2,049 lines */
+
+/* The least number of entries in each of a panel's four lists, and in each that humoraki_head_ranges fills. */
+#define HUMORAKI_PANEL_ROOM 4096
+
+/* The largest number of entries, one for each head, that a panel may have. */
+#define HUMORAKI_MOST_HEADS 64
 
 /* Stands for a time that there is not, in somes and alls. */
 #define HUMORAKI_NONE UINT64_C(4294967296)
@@ -150,6 +161,70 @@ uint8_t humoraki_corners(size_t k,
 uint8_t humoraki_report(const uint8_t *file, size_t file_len,
                         uint8_t *text, size_t text_len,
                         size_t *count);
+
+/*
+ * A head on a panel.
+ *
+ * A panel takes the ranges of up to 64 heads, 4,096 in all. It is the caller's own memory: one entry for each head, and
+ * four lists of at least HUMORAKI_PANEL_ROOM entries. The ranges held stand in the first places of the lists, as many
+ * as the held counts add up to, in the order in which they were accepted. 32 places are kept for each head, whatever
+ * the others do; 2,048 more are for all, one for each range that a head holds above its 32.
+ *
+ * A panel starts with the addresses of its heads in the entries and 0 held in each, and no call is needed for that:
+ *
+ *     humoraki_entry entries[] = {{7, 0}, {1234, 0}};
+ *     uint32_t addresses[HUMORAKI_PANEL_ROOM], times[HUMORAKI_PANEL_ROOM];
+ *     int32_t lows[HUMORAKI_PANEL_ROOM], highs[HUMORAKI_PANEL_ROOM];
+ *
+ * The lists need not be initialised: no call reads a place past those held. A head's service level, and whatever else
+ * is known of it, stays with the caller.
+ */
+typedef struct {
+    uint32_t address; /* 1 to 65,535, in no other entry of the panel */
+    uint32_t held;    /* how many ranges the head holds */
+} humoraki_entry;
+
+/*
+ * Adds a range to a panel.
+ *
+ * entries                        one for each head; read, and on success the head's holds one more
+ * addresses, times, lows, highs  the panel's lists; the places held are read, and on success the range stands in the
+ *                                next place. Every other place holds its old contents
+ * address                        the head's. None is cut to fit: 65,543, whose last 16 bits are 7, is refused with 12
+ * time                           above that of the head's last range; the times of other heads do not count
+ * low, high                      -268,435,456 to 268,435,456, low at most high
+ *
+ * Of the ranges held only the addresses are tried again: they are counted.
+ *
+ * Refusals: 8, 14, 12, then of the range 4, 5, 6, and last 13.
+ */
+uint8_t humoraki_add(humoraki_entry *entries, size_t entries_len,
+                     uint32_t *addresses, size_t addresses_len,
+                     uint32_t *times, size_t times_len,
+                     int32_t *lows, size_t lows_len,
+                     int32_t *highs, size_t highs_len,
+                     uint32_t address, uint32_t time, int32_t low, int32_t high);
+
+/*
+ * The ranges of one head on a panel, in the order in which they were accepted.
+ *
+ * entries, addresses, times, lows, highs  the panel, as for humoraki_add; it is read and not changed
+ * address                                 the head's
+ * into_times, into_lows, into_highs       filled with the head's ranges, HUMORAKI_PANEL_ROOM entries or more each
+ * count                                   set to the number of its ranges, at most 2,080
+ *
+ * Refusals: 8, of the panel's lists and of those to be filled, 14, 12.
+ */
+uint8_t humoraki_head_ranges(const humoraki_entry *entries, size_t entries_len,
+                             const uint32_t *addresses, size_t addresses_len,
+                             const uint32_t *times, size_t times_len,
+                             const int32_t *lows, size_t lows_len,
+                             const int32_t *highs, size_t highs_len,
+                             uint32_t address,
+                             uint32_t *into_times, size_t into_times_len,
+                             int32_t *into_lows, size_t into_lows_len,
+                             int32_t *into_highs, size_t into_highs_len,
+                             size_t *count);
 
 #ifdef __cplusplus
 }

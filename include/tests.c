@@ -1,14 +1,14 @@
 /*
  * Tries from C what humoraki.h says of memory that is lent: a pointer beside a length of 0 may be null, and what a
- * function fills or sets is written on success and left alone else. Then writes and reads back the addresses at the
- * ends of their span, and hands in numbers past it. Prints what is not so, and then ends with 1.
+ * function fills, sets or changes is written on success and left alone else. Then writes and reads back the addresses
+ * at the ends of their span, hands in numbers past it, and fills a panel. Prints what is not so, and then ends with 1.
  */
 #include "humoraki.h"
 
 #include <stdio.h>
 #include <string.h>
 
-/* All that a function fills or sets. */
+/* All that a function fills, sets or changes. */
 static struct {
     uint32_t times[HUMORAKI_READ_ROOM];
     int32_t lows[HUMORAKI_READ_ROOM], highs[HUMORAKI_READ_ROOM];
@@ -18,6 +18,9 @@ static struct {
     uint64_t somes[HUMORAKI_SEGMENT_ROOM], alls[HUMORAKI_SEGMENT_ROOM];
     int64_t ps[HUMORAKI_CORNER_ROOM], qs[HUMORAKI_CORNER_ROOM], ds[HUMORAKI_CORNER_ROOM];
     uint8_t text[HUMORAKI_REPORT_ROOM];
+    humoraki_entry entries[2];
+    uint32_t addresses[HUMORAKI_PANEL_ROOM], held_times[HUMORAKI_PANEL_ROOM];
+    int32_t held_lows[HUMORAKI_PANEL_ROOM], held_highs[HUMORAKI_PANEL_ROOM];
     uint32_t address;
     int32_t level;
     size_t ranges, count;
@@ -66,7 +69,20 @@ static uint8_t call_report(int missing) {
     return humoraki_report(EMPTY, SLICE(0, text), &lent.count);
 }
 
-/* Each call, the slices that it fills, and its number and its count where none is missing. */
+/* A panel. Its entries have a place past all that a call fills or changes, as their lack is no 8 but 14. */
+#define ENTRIES 7
+#define PANEL \
+    SLICE(ENTRIES, entries), SLICE(0, addresses), SLICE(1, held_times), SLICE(2, held_lows), SLICE(3, held_highs)
+
+static uint8_t call_add(int missing) {
+    return humoraki_add(PANEL, 7, 25, 1, 3);
+}
+
+static uint8_t call_head_ranges(int missing) {
+    return humoraki_head_ranges(PANEL, 7, SLICE(4, times), SLICE(5, lows), SLICE(6, highs), &lent.count);
+}
+
+/* Each call, the slices that it fills or changes, and its number and its count where none is missing. */
 static const struct {
     const char *name;
     uint8_t (*call)(int missing);
@@ -79,6 +95,8 @@ static const struct {
     {"segment", call_segment, 11, 0, 0},
     {"corners", call_corners, 3, 9, 0},
     {"report", call_report, 1, 0, 10},
+    {"add", call_add, 4, 14, 0},
+    {"head_ranges", call_head_ranges, 7, 14, 0},
 };
 
 #define MARK 0x5a
@@ -123,12 +141,60 @@ static void try_addresses(void) {
     }
 }
 
+/* Adds a range to the panel; a refusal must leave all that is lent as it was. */
+static void try_add(uint32_t address, uint32_t time, int32_t low, int32_t high, uint8_t number) {
+    static unsigned char before[sizeof lent];
+    int missing = -1;
+    if (number != 0)
+        memcpy(before, &lent, sizeof lent);
+    expect(humoraki_add(PANEL, address, time, low, high) == number, "add", "another number");
+    expect(number == 0 || memcmp(before, &lent, sizeof lent) == 0, "add", "something is changed by a refusal");
+}
+
+/* Asks for a head's ranges: so many, at the times from 1 on, and nothing past them. */
+static void try_head_ranges(uint32_t address, size_t count) {
+    int missing = -1;
+    uint32_t past = lent.times[count];
+    uint8_t number = humoraki_head_ranges(PANEL, address, SLICE(4, times), SLICE(5, lows), SLICE(6, highs),
+                                          &lent.count);
+    expect(number == 0 && lent.count == count, "head_ranges", "another count");
+    for (size_t at = 0; at < count; at++)
+        expect(lent.times[at] == at + 1 && lent.lows[at] == -1 && lent.highs[at] == 1, "head_ranges", "another range");
+    expect(lent.times[count] == past, "head_ranges", "an entry past the count is changed");
+}
+
+/* Starts a panel of the heads 7 and 9 in lists that nothing has set, fills it, and asks for the ranges again. */
+static void try_panel(void) {
+    mark();
+    lent.entries[0] = (humoraki_entry){7, 0};
+    lent.entries[1] = (humoraki_entry){9, 0};
+    for (uint32_t time = 1; time <= 2080; time++)
+        try_add(9, time, -1, 1, 0);
+    try_add(9, 2081, -1, 1, 13);
+    for (uint32_t time = 1; time <= 32; time++)
+        try_add(7, time, -1, 1, 0);
+    try_add(7, 33, -1, 1, 13);
+    try_add(7, 32, -1, 1, 6);
+    try_add(7, 32, 1, -1, 5);
+    try_add(7, 32, INT32_MAX, -1, 4);
+    try_add(65543, 32, INT32_MAX, -1, 12);
+    expect(lent.entries[0].held == 32 && lent.entries[1].held == 2080, "add", "another held count");
+    try_head_ranges(7, 32);
+    try_head_ranges(9, 2080);
+    lent.entries[0].held = UINT32_MAX;
+    try_add(65543, 32, INT32_MAX, -1, 14);
+    mark();
+    expect(call_add(ENTRIES) == 14, "add", "null entries are not refused with 14");
+    expect(call_head_ranges(ENTRIES) == 14, "head_ranges", "null entries are not refused with 14");
+    expect(kept(), "add", "something is changed although the entries are missing");
+}
+
 int main(void) {
     for (size_t at = 0; at < sizeof calls / sizeof calls[0]; at++) {
         const char *name = calls[at].name;
         for (int missing = 0; missing < calls[at].slices; missing++) {
             mark();
-            expect(calls[at].call(missing) == 8, name, "a null slice to be filled is not refused with 8");
+            expect(calls[at].call(missing) == 8, name, "a null slice is not refused with 8");
             expect(kept(), name, "something is changed although a slice is missing");
         }
         mark();
@@ -139,5 +205,6 @@ int main(void) {
             expect(kept(), name, "something is changed by a refusal");
     }
     try_addresses();
+    try_panel();
     return failures == 0 ? 0 : 1;
 }

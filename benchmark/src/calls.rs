@@ -1,4 +1,4 @@
-//! The two calls that are measured, of either program.
+//! The two calls on traces that are measured, of either program.
 
 use crate::buffers::Buffers;
 use crate::unproved;

@@ -5,6 +5,7 @@ mod buffers;
 mod calls;
 mod group;
 mod measure;
+mod panels;
 mod random;
 mod table;
 mod traces;
@@ -13,6 +14,7 @@ mod unproved;
 use buffers::Buffers;
 use calls::Call;
 use group::Group;
+use panels::{PanelMeasure, Task};
 use traces::Shape;
 
 /// Each measure has so many rounds, spread over the run, so that no busy moment of the machine spoils one.
@@ -25,12 +27,15 @@ fn main() {
             groups.push(Group::new(call, shape));
         }
     }
+    let mut panels = [Task::Refused, Task::Filling, Task::Listing].map(PanelMeasure::new);
     let mut one = Buffers::new();
     let mut other = Buffers::new();
     for _ in 0..ROUNDS {
         for group in &mut groups {
             group.round(&mut one, &mut other);
         }
+        panels.iter_mut().for_each(PanelMeasure::round);
     }
     table::print(&groups);
+    table::print_panels(&panels);
 }

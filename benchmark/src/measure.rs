@@ -1,4 +1,4 @@
-//! Nanoseconds for each range, of both programs in turn.
+//! The least times of both programs in turn: nanoseconds for each range, or for each call on a panel.
 
 use crate::buffers::Buffers;
 use crate::calls::Call;
@@ -12,27 +12,35 @@ const ROUND: Duration = Duration::from_millis(40);
 /// A program: it makes the call on a trace, and fills the buffers.
 type Program = fn(Call, &Trace, &mut Buffers) -> Result<usize, u8>;
 
-/// What one program has needed for each trace, at the least, since whatever else the machine does only adds to it.
-struct Least(Vec<Duration>);
+/// What one program has needed for each run, at the least, since whatever else the machine does only adds to it.
+pub struct Least(Vec<Duration>);
 
 impl Least {
-    fn new(traces: &[Trace]) -> Self {
-        Least(vec![Duration::MAX; traces.len()])
+    pub fn new(runs: usize) -> Self {
+        Least(vec![Duration::MAX; runs])
     }
 
-    /// Runs the program on each trace. Traces follow each other, so that the processor cannot know one by heart.
-    fn pass(&mut self, program: Program, call: Call, traces: &[Trace], out: &mut Buffers) {
-        for (trace, least) in traces.iter().zip(&mut self.0) {
+    /// Makes each run once. They follow each other, so that the processor cannot know one by heart.
+    pub fn pass(&mut self, mut run: impl FnMut(usize)) {
+        for (place, least) in self.0.iter_mut().enumerate() {
             let begin = Instant::now();
-            let _ = black_box(program(call, black_box(trace), black_box(out)));
+            run(place);
             *least = begin.elapsed().min(*least);
         }
     }
 
-    fn for_each_range(&self, traces: &[Trace]) -> f64 {
+    /// Of all runs together.
+    pub fn nanoseconds(&self) -> f64 {
         let total: Duration = self.0.iter().sum();
-        let ranges: usize = traces.iter().map(|t| t.times.len()).sum();
-        total.as_nanos() as f64 / ranges as f64
+        total.as_nanos() as f64
+    }
+}
+
+/// Has both programs make all their runs, over and over for one round. The first pass warms up.
+pub fn in_turn(mut both: impl FnMut()) {
+    let begin = Instant::now();
+    while begin.elapsed() < ROUND {
+        both();
     }
 }
 
@@ -46,27 +54,30 @@ pub struct Measure {
 
 impl Measure {
     pub fn new(call: Call, traces: Vec<Trace>) -> Self {
-        Measure { call, proved: Least::new(&traces), unproved: Least::new(&traces), traces }
+        let runs = traces.len();
+        Measure { call, proved: Least::new(runs), unproved: Least::new(runs), traces }
     }
 
-    /// Both programs in turn, each with slices of its own. The first pass warms up.
+    /// Each program on each trace, with slices of its own.
     pub fn round(&mut self, one: &mut Buffers, other: &mut Buffers) {
-        let begin = Instant::now();
-        while begin.elapsed() < ROUND {
-            self.proved.pass(Call::proved, self.call, &self.traces, one);
-            self.unproved.pass(Call::unproved, self.call, &self.traces, other);
-        }
+        let Measure { call, traces, proved, unproved } = self;
+        let run = |program: Program, place: usize, out: &mut Buffers| {
+            let _ = black_box(program(*call, black_box(&traces[place]), black_box(out)));
+        };
+        in_turn(|| {
+            proved.pass(|place| run(Call::proved, place, one));
+            unproved.pass(|place| run(Call::unproved, place, other));
+        });
     }
 
     pub fn times(&self) -> Times {
-        Times {
-            proved: self.proved.for_each_range(&self.traces),
-            unproved: self.unproved.for_each_range(&self.traces),
-        }
+        let ranges: usize = self.traces.iter().map(|t| t.times.len()).sum();
+        let for_each = |least: &Least| least.nanoseconds() / ranges as f64;
+        Times { proved: for_each(&self.proved), unproved: for_each(&self.unproved) }
     }
 }
 
-/// Nanoseconds for each range.
+/// Nanoseconds for each range, or for each call.
 pub struct Times {
     pub proved: f64,
     pub unproved: f64,

@@ -3,6 +3,7 @@
 use crate::calls::Call;
 use crate::group::Group;
 use crate::measure::Times;
+use crate::panels::{PanelMeasure, Task};
 use crate::traces::Shape;
 
 /// The places of 1,024 and 4,096 among the lengths.
@@ -74,4 +75,30 @@ pub fn print(groups: &[Group]) {
     println!("Largest ratio {ratio:.2}; largest growth of the proved library {grown:.2}.");
     println!();
     println!("{NOTES}");
+}
+
+const PANEL_NOTES: &str = "\
+Nanoseconds for each call on a panel of 64 heads, measured as above. \
+Both programs count the addresses in a tally of 65,536 counters on the stack, which each call sets to 0.";
+
+fn task_name(task: Task) -> (&'static str, &'static str) {
+    match task {
+        Task::Refused => ("Add", "all 4,096 places held: 13"),
+        Task::Filling => ("Add", "from none to all 4,096 places held, on average"),
+        Task::Listing => ("Head ranges", "all 4,096 places held, 64 of them by the head"),
+    }
+}
+
+pub fn print_panels(panels: &[PanelMeasure]) {
+    println!();
+    println!("| call | panel | proved, ns | unproved, ns | ratio |");
+    println!("|---|---|--:|--:|--:|");
+    for panel in panels {
+        let (call, state) = task_name(panel.task);
+        let times = panel.times();
+        let [proved, unproved] = [times.proved, times.unproved].map(|number| with_comma(number.round() as usize));
+        println!("| {call} | {state} | {proved} | {unproved} | {:.2} |", times.ratio());
+    }
+    println!();
+    println!("{PANEL_NOTES}");
 }

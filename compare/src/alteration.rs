@@ -42,7 +42,8 @@ impl Alteration {
         let alteration = |name, part| Alteration { call, name, part, noticed: None };
         let mut all = vec![alteration(NUMBER, Part::Accepted), alteration(NUMBER, Part::Refused)];
         for (name, usage) in lent {
-            let parts = PARTS.iter().filter(|(part, _)| *part != Part::Past || *usage == Use::Filled);
+            let has_past = matches!(usage, Use::Filled | Use::Extended);
+            let parts = PARTS.iter().filter(|(part, _)| *part != Part::Past || has_past);
             all.extend(parts.map(|(part, _)| alteration(*name, *part)));
         }
         all
@@ -51,7 +52,7 @@ impl Alteration {
     /// The alteration as it is written after `--alter`.
     pub fn words(&self) -> String {
         let part = PARTS.iter().find(|(part, _)| *part == self.part).map_or("", |(_, name)| name);
-        format!("{} {} {part}", self.call.name().to_lowercase(), self.name)
+        format!("{} {} {part}", self.call.word(), self.name)
     }
 
     /// Alters what a call returned or was lent, if it is one to be altered and none was before.
@@ -118,12 +119,15 @@ mod tests {
         assert_eq!(of_call("report"), of_report);
     }
 
-    /// The number in 2 parts, what is read or set in 3, and what is filled in 4.
+    /// The number in 2 parts, what is read or set in 3, and what is filled in 4; of a panel that is changed, the
+    /// entries in 3 and the lists in 4.
     #[test]
     fn no_call_is_left_out() {
         assert_eq!(of_call("read").len(), 2 + 3 * 4 + 4 * 3);
         assert_eq!(of_call("write").len(), 2 + 4 * 3 + 4);
         assert_eq!(of_call("segment").len(), 2 + 3 * 4 + 4 * PLACES);
         assert_eq!(of_call("corners").len(), 2 + 3 * 4 + 4 * 3);
+        assert_eq!(of_call("add").len(), 2 + 3 + 4 * 4);
+        assert_eq!(of_call("head_ranges").len(), 2 + 3 * 6 + 4 * 3);
     }
 }

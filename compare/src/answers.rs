@@ -3,6 +3,7 @@
 
 use crate::file;
 use crate::line::Line;
+use crate::panel::Panel;
 use crate::report;
 use crate::segments::{Fitter, Segment, segments, stages};
 use crate::trace::{Lists, Range, Trace};
@@ -48,6 +49,19 @@ pub fn report(file: &[u8], fitter: Fitter) -> String {
         Err(number) => report::refused(number),
         Ok(trace) => report::accepted(&trace, &segments(&trace.ranges, trace.level, fitter)),
     }
+}
+
+/// The panel with the range on it.
+pub fn add(panel: &Panel, address: u32, range: &Range) -> Result<Panel, u8> {
+    trial::panel(panel, address)?;
+    trial::range(range, panel.ranges_of(address).last())?;
+    trial::place(panel, address)?;
+    Ok(panel.with(address, range))
+}
+
+pub fn head_ranges(panel: &Panel, address: u32) -> Result<Vec<Range>, u8> {
+    trial::panel(panel, address)?;
+    Ok(panel.ranges_of(address))
 }
 
 /// An answer as the calls take it.

@@ -2,7 +2,9 @@
 
 use crate::alteration::Alteration;
 use crate::answers::{self, borrowed};
+use crate::calls::add::AddCall;
 use crate::calls::corners::CornersCall;
+use crate::calls::head_ranges::HeadRangesCall;
 use crate::calls::read::ReadCall;
 use crate::calls::report::ReportCall;
 use crate::calls::segment::SegmentCall;
@@ -10,11 +12,12 @@ use crate::calls::write::WriteCall;
 use crate::calls::{Returned, Told, Wrong, uses};
 use crate::difference::Outcome;
 use crate::line::Line;
+use crate::panel::Panel;
 use crate::random::Random;
 use crate::room::Room;
-use crate::segments::{Fitter, Segment};
+use crate::segments::{BY_CLIPPING, Fitter, Segment, segments};
 use crate::tally::{Call, Tally};
-use crate::trace::{Lists, Trace};
+use crate::trace::{Lists, Range, Trace};
 
 pub struct Desk {
     pub random: Random,
@@ -26,6 +29,8 @@ pub struct Desk {
     segment: SegmentCall,
     corners: CornersCall,
     report: ReportCall,
+    add: AddCall,
+    head_ranges: HeadRangesCall,
 }
 
 impl Desk {
@@ -39,6 +44,8 @@ impl Desk {
             segment: SegmentCall::new(),
             corners: CornersCall::new(),
             report: ReportCall::new(),
+            add: AddCall::new(),
+            head_ranges: HeadRangesCall::new(),
         }
     }
 
@@ -76,6 +83,29 @@ impl Desk {
         judged.map_err(|wrong| wrong.in_call(Told::on_file(self.report.in_words(expected, room), file)))
     }
 
+    pub fn add(&mut self, handed: (&Panel, u32, &Range), expected: Result<&Panel, u8>) -> Outcome {
+        let returned = self.add.call(handed, expected, &mut self.random);
+        let judged = judged(returned, &mut self.alteration, &mut self.random, &mut self.tally);
+        let (panel, address, Range { time, low, high }) = handed;
+        let call = || format!("Add, address {address}, time {time}, low {low}, high {high}");
+        judged.map_err(|wrong| wrong.in_call(Told::on_panel(call(), panel)))
+    }
+
+    pub fn head_ranges(&mut self, handed: (&Panel, u32), expected: Result<&[Range], u8>, room: &Room) -> Outcome {
+        let returned = self.head_ranges.call(handed, expected, room, &mut self.random);
+        let judged = judged(returned, &mut self.alteration, &mut self.random, &mut self.tally);
+        let (panel, address) = handed;
+        judged
+            .map_err(|wrong| wrong.in_call(Told::on_panel(format!("Head ranges, address {address}, {room}"), panel)))
+    }
+
+    /// Head ranges of a head that holds these ranges, and Segment on the lists that it left.
+    pub fn head_segments(&mut self, panel: &Panel, address: u32, ranges: &[Range], level: i32) -> Outcome {
+        self.head_ranges((panel, address), Ok(ranges), &Room::enough())?;
+        let segments = segments(ranges, level, BY_CLIPPING);
+        self.segment(level, &self.head_ranges.left(), Ok(&segments), &Room::enough())
+    }
+
     /// Read and the report of a file that may be damaged; where it is accepted, Write gives its bytes back.
     pub fn file(&mut self, file: &[u8], fitter: Fitter) -> Outcome {
         let expected = answers::read(file);
@@ -95,6 +125,8 @@ impl Desk {
             (Call::Segment, self.segment.lent()),
             (Call::Corners, self.corners.lent()),
             (Call::Report, self.report.lent()),
+            (Call::Add, self.add.lent()),
+            (Call::HeadRanges, self.head_ranges.lent()),
         ];
         calls.into_iter().flat_map(|(call, lent)| Alteration::all(call, &uses(lent))).collect()
     }

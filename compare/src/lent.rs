@@ -6,7 +6,7 @@
 use crate::alteration::Part;
 use crate::random::Random;
 use crate::room::Room;
-use std::fmt::Display;
+use std::fmt::Debug;
 
 /// How many entries there are at least on each side of a lent slice.
 const MARGIN: usize = 16;
@@ -19,6 +19,10 @@ const SHOWN: usize = 10;
 pub enum Use {
     /// reads all of it
     Read,
+    /// reads all of it, and changes some
+    Changed,
+    /// reads it up to a count, and adds an entry there
+    Extended,
     /// fills it up to a count
     Filled,
     /// sets the one number that it is
@@ -35,11 +39,11 @@ pub struct Lent<T> {
     filled: usize,
 }
 
-/// A number of any value, from any bits.
-pub trait Entry: Copy + PartialEq + Display {
+/// A number of any value, or a few of them, from any bits.
+pub trait Entry: Copy + PartialEq + Debug {
     fn from_bits(bits: u64) -> Self;
 
-    /// The number with one bit turned.
+    /// The same with one bit turned.
     fn altered(self, random: &mut Random) -> Self;
 }
 
@@ -58,6 +62,20 @@ macro_rules! entry {
 }
 
 entry!(u8 u32 i32 i64 u64 usize);
+
+impl Entry for humoraki::Entry {
+    fn from_bits(bits: u64) -> humoraki::Entry {
+        humoraki::Entry { address: bits as u32, held: (bits >> 32) as u32 }
+    }
+
+    fn altered(self, random: &mut Random) -> humoraki::Entry {
+        let humoraki::Entry { address, held } = self;
+        match random.one_in(2) {
+            true => humoraki::Entry { address: address.altered(random), held },
+            false => humoraki::Entry { address, held: held.altered(random) },
+        }
+    }
+}
 
 impl<T: Entry> Lent<T> {
     pub fn new(name: &'static str, usage: Use) -> Lent<T> {
@@ -187,7 +205,7 @@ pub fn lend_room(
     short
 }
 
-fn listed<T: Display>(entries: &[T]) -> String {
-    let words: Vec<String> = entries.iter().map(T::to_string).collect();
+fn listed<T: Debug>(entries: &[T]) -> String {
+    let words: Vec<String> = entries.iter().map(|entry| format!("{entry:?}")).collect();
     words.join(" ")
 }

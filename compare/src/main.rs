@@ -22,6 +22,8 @@ mod line;
 mod meaning;
 mod mode;
 mod outlook;
+mod panel;
+mod panels;
 mod random;
 mod report;
 mod room;
@@ -44,9 +46,10 @@ use std::process::ExitCode;
 use std::time::Instant;
 use stored::Program;
 
-/// A comparison that is to be seen to fail has this seed, and so many small traces.
+/// A comparison that is to be seen to fail has this seed, so many small traces, and so many courses of adds.
 const ALTERED_SEED: u64 = 1;
 const ALTERED_TRACES: usize = 10;
+const ALTERED_COURSES: usize = 2;
 
 fn main() -> ExitCode {
     let words: Vec<String> = std::env::args().skip(1).collect();
@@ -91,7 +94,10 @@ fn all_rounds(desk: &mut Desk, traces: usize) -> Outcome {
     rounds::list_faults::compare(desk)?;
     rounds::short_slices::compare(desk)?;
     rounds::largest::compare(desk)?;
-    rounds::long_traces::compare(desk)
+    rounds::long_traces::compare(desk)?;
+    rounds::panel_cases::compare(desk)?;
+    rounds::panel_faults::compare(desk)?;
+    rounds::panel_courses::compare(desk)
 }
 
 /// Status 1, as for any difference, if the altered call is judged to differ; 0 if it is not.
@@ -117,7 +123,8 @@ fn alter(alteration: Alteration) -> ExitCode {
 fn altered_rounds(desk: &mut Desk) -> Outcome {
     rounds::samples::compare(desk)?;
     rounds::small_traces::compare(desk, ALTERED_TRACES)?;
-    rounds::short_slices::compare(desk)
+    rounds::short_slices::compare(desk)?;
+    rounds::panel_courses::short(desk, ALTERED_COURSES)
 }
 
 fn list_alterations() -> ExitCode {

@@ -7,30 +7,39 @@ pub enum Call {
     Segment,
     Corners,
     Report,
+    Add,
+    HeadRanges,
 }
 
 /// The calls by name, with the answers that the scope has for each; 0 is accepted.
-const CALLS: [(Call, &str, &[usize]); 5] = [
+const CALLS: [(Call, &str, &[usize]); 7] = [
     (Call::Read, "Read", &[0, 1, 2, 3, 4, 5, 6, 7, 8]),
     (Call::Write, "Write", &[0, 4, 5, 6, 7, 8, 10]),
     (Call::Segment, "Segment", &[0, 4, 5, 6, 7, 8, 10]),
     (Call::Corners, "Corners", &[0, 4, 5, 6, 7, 8, 9, 10]),
     (Call::Report, "report", &[0, 8]),
+    (Call::Add, "Add", &[0, 4, 5, 6, 8, 12, 13, 14]),
+    (Call::HeadRanges, "Head ranges", &[0, 8, 12, 14]),
 ];
 
-/// How many refusals the scope has.
-const REFUSALS: usize = 10;
+/// The largest number of a refusal.
+const LARGEST: usize = 14;
 
 #[derive(Default)]
 pub struct Tally {
     /// by call, accepted first, then by refusal
-    answers: [[u64; REFUSALS + 1]; CALLS.len()],
+    answers: [[u64; LARGEST + 1]; CALLS.len()],
     counts: Vec<(String, u64)>,
 }
 
 impl Call {
     pub fn name(self) -> &'static str {
         CALLS[self as usize].1
+    }
+
+    /// The name as one word.
+    pub fn word(self) -> String {
+        self.name().to_lowercase().replace(' ', "_")
     }
 }
 
@@ -79,7 +88,7 @@ impl Tally {
 
     pub fn table(&self) -> String {
         let mut text = format!("{:>12}", "");
-        for number in 0..=REFUSALS {
+        for number in 0..=LARGEST {
             text += &format!("{:>9}", title(number));
         }
         text += "\n";
@@ -134,7 +143,7 @@ mod tests {
     #[test]
     fn an_answer_that_a_call_cannot_give_is_named() {
         for (call, name, answers) in CALLS {
-            for number in (0..=REFUSALS).filter(|number| !answers.contains(number)) {
+            for number in (0..=LARGEST).filter(|number| !answers.contains(number)) {
                 let mut tally = all_but(None);
                 tally.answer(call, number as u8);
                 assert_eq!(tally.faults(), [format!("not in the scope: {name}, {number}")]);

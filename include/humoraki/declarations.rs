@@ -2,6 +2,8 @@
 //!
 //! Nothing checks these declarations against the header, so they stand here alone: change both files together.
 
+use super::Entry;
+
 // A slice's pointer and length share a line, as in the header.
 #[rustfmt::skip]
 macro_rules! declare {
@@ -48,6 +50,28 @@ macro_rules! declare {
             pub fn humoraki_report(
                 file: *const u8, file_len: usize,
                 text: *mut u8, text_len: usize,
+                count: *mut usize,
+            ) -> u8;
+
+            pub fn humoraki_add(
+                entries: *mut Entry, entries_len: usize,
+                addresses: *mut u32, addresses_len: usize,
+                times: *mut u32, times_len: usize,
+                lows: *mut i32, lows_len: usize,
+                highs: *mut i32, highs_len: usize,
+                address: u32, time: u32, low: i32, high: i32,
+            ) -> u8;
+
+            pub fn humoraki_head_ranges(
+                entries: *const Entry, entries_len: usize,
+                addresses: *const u32, addresses_len: usize,
+                times: *const u32, times_len: usize,
+                lows: *const i32, lows_len: usize,
+                highs: *const i32, highs_len: usize,
+                address: u32,
+                into_times: *mut u32, into_times_len: usize,
+                into_lows: *mut i32, into_lows_len: usize,
+                into_highs: *mut i32, into_highs_len: usize,
                 count: *mut usize,
             ) -> u8;
         }

@@ -2,9 +2,13 @@
 //!
 //! Nothing is allocated here. After `Ok` the numbers are set and the start of each slice is filled, and entries past
 //! the count hold what they held before. An `Err` has the number of a refusal, and then nothing at all has changed.
+//! A panel is both read and changed, by `add`.
 
-use super::SEGMENT_ROOM;
-use super::declarations::{humoraki_corners, humoraki_read, humoraki_report, humoraki_segment, humoraki_write};
+use super::declarations::{
+    humoraki_add, humoraki_corners, humoraki_head_ranges, humoraki_read, humoraki_report, humoraki_segment,
+    humoraki_write,
+};
+use super::{Entry, SEGMENT_ROOM};
 
 /// The ranges of a trace, in three lists.
 #[derive(Clone, Copy)]
@@ -21,18 +25,44 @@ pub struct Lines<'a> {
     pub ds: &'a mut [i64],
 }
 
-/// Calls a function of the library. Every one of them takes first values, then slices to read, then slices to fill and
-/// last the numbers to set; a slice goes as its pointer and its length.
+/// A panel to be read: one entry for each head, and the four lists with the ranges of all of them.
+#[derive(Clone, Copy)]
+pub struct Panel<'a> {
+    pub entries: &'a [Entry],
+    pub addresses: &'a [u32],
+    pub ranges: Ranges<'a>,
+}
+
+/// Three slices for ranges.
+pub struct RangesMut<'a> {
+    pub times: &'a mut [u32],
+    pub lows: &'a mut [i32],
+    pub highs: &'a mut [i32],
+}
+
+/// A panel to be changed.
+pub struct PanelMut<'a> {
+    pub entries: &'a mut [Entry],
+    pub addresses: &'a mut [u32],
+    pub ranges: RangesMut<'a>,
+}
+
+/// Calls a function of the library. Every one of them takes first values, then slices to read, then a value that tells
+/// what is sought in them, then slices to fill or to change, and last the numbers to set or further values; a slice
+/// goes as its pointer and its length.
 macro_rules! call {
-    ($function:ident($($value:expr),*; $($read:expr),*; $($filled:expr),*; $($set:expr),*)) => {{
-        // SAFETY: each pointer is a slice's own and has its length beside it. What is filled or set is borrowed as
-        // mutable, so it overlaps nothing else.
+    ($function:ident(
+        $($value:expr),*; $($read:expr),*; $($sought:expr)?; $($filled:expr),*; $($last:expr),*
+    )) => {{
+        // SAFETY: each pointer is a slice's own and has its length beside it. What is filled, set or changed is
+        // borrowed as mutable, so it overlaps nothing else.
         let refusal = unsafe {
             $function(
                 $($value,)*
                 $($read.as_ptr(), $read.len(),)*
+                $($sought,)?
                 $($filled.as_mut_ptr(), $filled.len(),)*
-                $($set,)*
+                $($last,)*
             )
         };
         if refusal == 0 { Ok(()) } else { Err(refusal) }
@@ -49,24 +79,38 @@ pub fn read(
     level: &mut i32,
     ranges: &mut usize,
 ) -> Result<(), u8> {
-    call!(humoraki_read(; file; times, lows, highs; address, level, ranges))
+    call!(humoraki_read(; file; ; times, lows, highs; address, level, ranges))
 }
 
 /// Fills a slice with the bytes of a trace's file, and sets their count. An address is 1 to 65,535; any other number is
 /// refused with 4.
 pub fn write(address: u32, level: i32, ranges: Ranges, file: &mut [u8], count: &mut usize) -> Result<(), u8> {
-    call!(humoraki_write(address, level; ranges.times, ranges.lows, ranges.highs; file; count))
+    call!(humoraki_write(address, level; ranges.times, ranges.lows, ranges.highs; ; file; count))
 }
 
 /// Fills three slices with the corners of the fit of the segment then running after the first k ranges, and sets their
 /// count: 0 where that segment has one range so far.
 pub fn corners(k: usize, ranges: Ranges, corners: Lines, count: &mut usize) -> Result<(), u8> {
-    call!(humoraki_corners(k; ranges.times, ranges.lows, ranges.highs; corners.ps, corners.qs, corners.ds; count))
+    call!(humoraki_corners(k; ranges.times, ranges.lows, ranges.highs; ; corners.ps, corners.qs, corners.ds; count))
 }
 
 /// Fills a slice with the text of a file's report, and sets the count of its bytes.
 pub fn report(file: &[u8], text: &mut [u8], count: &mut usize) -> Result<(), u8> {
-    call!(humoraki_report(; file; text; count))
+    call!(humoraki_report(; file; ; text; count))
+}
+
+/// Adds a range to a panel: it gets the next place of the four lists, and the entry of its head holds one more.
+pub fn add(panel: PanelMut, address: u32, time: u32, low: i32, high: i32) -> Result<(), u8> {
+    let PanelMut { entries, addresses, ranges: RangesMut { times, lows, highs } } = panel;
+    call!(humoraki_add(; ; ; entries, addresses, times, lows, highs; address, time, low, high))
+}
+
+/// Fills three slices with the ranges of one head on a panel, and sets their count.
+pub fn head_ranges(panel: Panel, address: u32, into: RangesMut, count: &mut usize) -> Result<(), u8> {
+    let Panel { entries, addresses, ranges: Ranges { times, lows, highs } } = panel;
+    call!(humoraki_head_ranges(
+        ; entries, addresses, times, lows, highs; address; into.times, into.lows, into.highs; count
+    ))
 }
 
 /// What is made from the list of columns.
@@ -79,7 +123,7 @@ macro_rules! over_columns {
 
         /// Fills the columns with the segments of a trace, and sets their count.
         pub fn segment(level: i32, ranges: Ranges, columns: Columns, count: &mut usize) -> Result<(), u8> {
-            call!(humoraki_segment(level; ranges.times, ranges.lows, ranges.highs; $(columns.$column),*; count))
+            call!(humoraki_segment(level; ranges.times, ranges.lows, ranges.highs; ; $(columns.$column),*; count))
         }
 
         /// Columns of the least length with memory of their own, to be lent as often as needed.

@@ -3,8 +3,9 @@
 //! With cargo this is the crate `humoraki`. A program without cargo takes the folder as a module, and tells the
 //! compiler where libhumoraki.a is, which `rt staticlib humoraki` writes to target/staticlib/.
 //!
-//! The functions here lend memory of the least length and hand back what was filled; those of `lent` take memory that
-//! the caller lends. What the header asks of a caller holds of every slice in Rust, so nothing is left to keep.
+//! The functions here lend memory of the least length and hand back what was filled, and `panel` has a panel with
+//! memory of its own; the functions of `lent` take memory that the caller lends. What the header asks of a caller holds
+//! of every slice in Rust, so nothing is left to keep.
 //!
 //! An `Err` has the number of a refusal; `meaning` says it in words.
 
@@ -15,6 +16,7 @@
 mod columns;
 mod declarations;
 pub mod lent;
+pub mod panel;
 #[cfg(test)]
 mod tests;
 
@@ -34,6 +36,12 @@ pub const CORNER_ROOM: usize = 8192;
 
 /// The least length of the text that `lent::report` fills: 256 bytes for each of 2,049 lines.
 pub const REPORT_ROOM: usize = 524_544;
+
+/// The least length of each of a panel's four lists, and of each list that `lent::head_ranges` fills.
+pub const PANEL_ROOM: usize = 4096;
+
+/// The largest number of entries, one for each head, that a panel may have.
+pub const MOST_HEADS: usize = 64;
 
 /// Stands for a time that there is not, in the columns `somes` and `alls`.
 pub const NONE: u64 = 4_294_967_296;
@@ -78,6 +86,14 @@ pub struct Segment {
     pub outlook: Outlook,
 }
 
+/// A head on a panel, as `humoraki.h` has it: its address, 1 to 65,535, and how many ranges it holds.
+#[repr(C)]
+#[derive(Clone, Copy, Debug, PartialEq, Eq)]
+pub struct Entry {
+    pub address: u32,
+    pub held: u32,
+}
+
 /// What the number of a refusal means.
 pub fn meaning(refusal: u8) -> &'static str {
     match refusal {
@@ -86,11 +102,17 @@ pub fn meaning(refusal: u8) -> &'static str {
         3 => "the length is none that the tag may have",
         4 => "address, level, low or high outside its span, or in a file an address below 256 in two bytes",
         5 => "low above high",
-        6 => "time not above the one before",
+        6 => "time not above the one before; on a panel, the one before of the same head",
         7 => "a 4,097th range",
-        8 => "a lent slice to be filled is too short",
+        8 => "a lent slice to be filled, or a list of a panel, is too short",
         9 => "k is 0 or above the number of ranges",
         10 => "times, lows and highs differ in length",
+        12 => "no entry of the panel has the address",
+        13 => "the head holds 32 ranges or more, and the panel's common places are taken",
+        14 => {
+            "not a panel: it has 0 entries or over 64, one address in two of them, or one outside its span; some head \
+             does not hold as many ranges as its address has places; or over 2,048 common places are taken"
+        }
         _ => "no refusal has this number",
     }
 }

@@ -1,10 +1,12 @@
-//! The unproved program: Segment and Corners by the algorithm of the proved one, in ordinary safe Rust.
+//! The unproved program: Segment, Corners and the calls on a panel by the algorithm of the proved one, in ordinary safe
+//! Rust.
 
 mod chains;
 mod corner_list;
 mod ends;
 mod line;
 mod outlook;
+mod panel;
 mod polygon;
 mod rows;
 mod run;
@@ -12,7 +14,7 @@ mod trial;
 
 use chains::Chains;
 use ends::Ends;
-use humoraki::lent::{Columns, Lines, Ranges};
+use humoraki::lent::{Columns, Lines, Panel, PanelMut, Ranges, RangesMut};
 use outlook::Outlook;
 use rows::Segment;
 
@@ -57,4 +59,27 @@ pub fn corners(k: usize, ranges: Ranges, mut out: Lines) -> Result<usize, u8> {
     let ends = Ends::of(ranges);
     let polygon = run::last_polygon(ends, &mut chains, k as u32);
     Ok(polygon.map_or(0, |found| corner_list::list_corners(ends, &chains, found, &mut out)))
+}
+
+/// Puts a range on a panel, or gives the number of a refusal.
+#[inline(never)]
+pub fn add(panel: PanelMut, address: u32, time: u32, low: i32, high: i32) -> Result<(), u8> {
+    let PanelMut { entries, addresses, ranges: RangesMut { times, lows, highs } } = panel;
+    let lent = Panel { entries, addresses, ranges: Ranges { times, lows, highs } };
+    let found = panel::try_panel(lent, &[], address)?;
+    panel::try_range(lent, &found, (time, low, high))?;
+    addresses[found.held] = address;
+    times[found.held] = time;
+    lows[found.held] = low;
+    highs[found.held] = high;
+    entries[found.entry].held += 1;
+    Ok(())
+}
+
+/// The ranges of one head, or the number of a refusal.
+#[inline(never)]
+pub fn head_ranges(panel: Panel, address: u32, into: RangesMut, count: &mut usize) -> Result<(), u8> {
+    let found = panel::try_panel(panel, &[into.times.len(), into.lows.len(), into.highs.len()], address)?;
+    *count = panel::copy_ranges(panel, found.held, address, into);
+    Ok(())
 }

@@ -7,7 +7,7 @@ pub const MOST_RANGES: usize = 4096;
 
 const MOST_VALUE: i32 = 268_435_456;
 
-fn value_outside(value: i32) -> bool {
+pub fn value_outside(value: i32) -> bool {
     !(-MOST_VALUE..=MOST_VALUE).contains(&value)
 }
 

@@ -1,8 +1,11 @@
 //! Each call of the library beside what is expected of it, with all that was lent to it compared whole.
 
+pub mod add;
 pub mod columns;
 pub mod corners;
+pub mod head_ranges;
 pub mod lists;
+pub mod panel;
 pub mod read;
 pub mod report;
 pub mod segment;
@@ -11,6 +14,7 @@ pub mod write;
 use crate::difference::{Difference, answer};
 use crate::file::{bytes, visible};
 use crate::lent::{Use, Watched};
+use crate::panel::{PLACES, Panel};
 use crate::tally::Call;
 use crate::trace::{Lists, Trace};
 
@@ -48,6 +52,14 @@ impl Told {
     pub fn on_lists(call: String, lists: &Lists, address: u32, level: i32) -> Told {
         let file = bytes(&Trace { address, level, ranges: lists.ranges() });
         Told { call, lists: lists.clone(), file }
+    }
+
+    /// A call on a panel, with the ranges in the places held.
+    pub fn on_panel(call: String, panel: &Panel) -> Told {
+        let call = format!("{call}\n{}", panel.in_words());
+        let mut ranges = panel.lists.ranges();
+        ranges.truncate(panel.held().min(PLACES as u64) as usize);
+        Told { call, lists: Lists::of(&ranges), file: Vec::new() }
     }
 }
 

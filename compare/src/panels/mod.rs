@@ -1,0 +1,6 @@
+//! Where the panels come from.
+
+pub mod course;
+pub mod heads;
+pub mod sound;
+pub mod spoils;
