@@ -30,13 +30,15 @@ use Rattle.definitions.specs.FieldKinds.{field, fieldTag, fieldSize, fie
 use Rattle.definitions.specs.HeaderFields.{addressOf, addressBody, levelOf, addressKind, levelKind, readHeader, writeHeader}
 use Rattle.definitions.specs.TraceFile.{Trace, rangeOf, rangeForm, rangeKind, readFields, readFile, writeRanges, writeFile}
 use Rattle.definitions.specs.Calls.{Fit, bounded, fitOf, readCall, writeCall, segmentCall, cornersCall}
+use Rattle.definitions.specs.Previews.{longer, Effect, joins, begins, lastOutlook, effectOf, previewCall}
 use Rattle.definitions.specs.Report.{ascii, digitsWithin, decimal, signedDecimal, timeText, lineText, outlookText, spanText, segmentLine, segmentLines, traceLine, refusedLine, traceText, reportText, report, reportRoom, reportCall}
 use Rattle.definitions.specs.Panels.{Panel, totalHeld, commonTaken, isAt, either, heldBy, zipTaken, taken, onPanel, kept, headRanges, lastTime, countedIn, occurrences, twice, outsideAddress, miscounted, badPanel, notPanel, unknown, crowded}
 use Rattle.definitions.specs.PanelCalls.{roomOf, panelRows, addRows, bumped, entriesAfter, putAt, added, addCall, headRangesCall}
 use Rattle.definitions.specs.declared.entries.Entry.{Entry}
 
 -- Segment with a level and lists, Corners with k and lists, Read or the report with a file, Write with an address, a level and no ranges,
--- Add with a panel, an address and a range, or Head ranges with a panel and an address; the slices to be filled are as long as they must be
+-- Add with a panel, an address and a range, Head ranges with a panel and an address, or Preview with a level, lists and a range; the slices to be filled are as
+-- long as they must be
 pub data Call : Type 0 where
   segment : ℤ → Lists → Call
   cornersAfter : ℕ → Lists → Call
@@ -45,6 +47,7 @@ pub data Call : Type 0 where
   print : List ℕ → Call
   add : Panel → ℕ → Range → Call
   rangesAt : Panel → ℕ → Call
+  preview : ℤ → Lists → Range → Call
 
 pub data Result : Type 0 where
   segmented : Answer (List Segment) → Result
@@ -54,6 +57,7 @@ pub data Result : Type 0 where
   printed : Answer (List ℕ) → Result
   tried : Answer Panel → Result
   listed : Answer (List Range) → Result
+  seen : Answer Effect → Result
 
 pub run : Call → Result
 run (segment level ls) = segmented (segmentCall (replicate rowLength segmentRoom) (record { level = level }) ls)
@@ -63,6 +67,7 @@ run (write address level) = written (writeCall (writeRoom ∷ []) (record { addr
 run (print bs) = printed (reportCall (reportRoom ∷ []) bs)
 run (add s a r) = tried (addCall s a r)
 run (rangesAt s a) = listed (headRangesCall (replicate 3 panelRoom) s a)
+run (preview level ls r) = seen (previewCall (record { level = level }) ls r)
 
 infix 85 _gives_
 pub data Case : Type 0 where
@@ -159,6 +164,10 @@ beside n = panel (entry 1 32 ∷ entry 2 n ∷ []) (replicate 32 1 ++ replicate 
 abbrev short : List Entry → Panel
 short es = record { entries = es; places = record { addresses = listOf [] 0; times = listOf [] 0; lows = listOf [] (pos 0); highs = replicate 4095 (pos 4) } }
 
+-- n ranges, all at time 0 and from 0 to 4
+abbrev still : ℕ → Lists
+still n = trace (replicate n 0) (replicate n (pos 0)) (replicate n (pos 4))
+
 -- ---- what is expected
 
 abbrev fitIs : List Line → Result
@@ -181,6 +190,9 @@ textIs bytes = printed (accepted bytes)
 
 abbrev panelIs : Panel → Result
 panelIs s = tried (accepted s)
+
+abbrev effectIs : Effect → Result
+effectIs e = seen (accepted e)
 
 -- ---- the table
 
@@ -241,8 +253,19 @@ table =
     ∷ rangesAt (four sevenAndNine) 7 gives listed (accepted (range 10 (pos 0) (pos 4) ∷ range 20 (pos 0) (pos 4) ∷ []))
     ∷ rangesAt (four sevenAndNine) 8 gives listed (refused 12)
     ∷ rangesAt (four (entry 7 1 ∷ entry 9 3 ∷ [])) 7 gives listed (refused 14)
+    ∷ preview (pos 20) sample (range 60 (pos 13) (pos 16)) gives effectIs (joins (lines (line (pos 1) (pos 70) (pos 10)) (line (pos 3) (minus 30) (pos 10)) (at 77) (at 130)))
+    ∷ preview (pos 20) sample (range 60 (pos 16) (pos 18)) gives effectIs (begins open-strip)
+    ∷ preview (pos 20) (trace [] [] []) (range 0 (pos 0) (pos 4)) gives effectIs (begins open-strip)
+    ∷ preview (pos 9) (one (pos 0) (pos 0)) (range 4 (pos 2) (pos 2)) gives effectIs (joins (lines (line (pos 1) (pos 0) (pos 2)) (line (pos 1) (pos 0) (pos 2)) (at 18) (at 18)))
+    ∷ preview (pos 20) sample (range 50 (pos 13) (pos 16)) gives seen (refused 6)
+    ∷ preview (pos 20) (one (pos 1) (pos 0)) (range 0 (pos 0) (pos 4)) gives seen (refused 5)
+    ∷ preview (pos 268435457) (one (pos 1) (pos 0)) (range 0 (pos 0) (pos 4)) gives seen (refused 4)
+    ∷ preview (pos 20) (still 4095) (range 0 (pos 1) (pos 0)) gives seen (refused 6)
+    ∷ preview (pos 268435457) (still 4096) (range 0 (pos 1) (pos 0)) gives seen (refused 7)
+    ∷ preview (pos 20) (still 5000) (range 0 (pos 1) (pos 0)) gives seen (refused 7)
+    ∷ preview (pos 20) (trace (replicate 4096 0) (replicate 4095 (pos 0)) (replicate 4096 (pos 4))) (range 0 (pos 1) (pos 0)) gives seen (refused 10)
     ∷ []
 
 pub table-holds : map (λ c. run (callOf c)) table ≡ map resultOf table
-unfolding table run callOf resultOf all any filter reading fitsRange fits sideAt notBelow atOrAbove through throughEnds candidatesFrom candidates hasLine euclid gcd commonDivisor reduced before side between betweenSome insert sorted fitting extreme getLastD cornerOrder corners cutFrom cut lastRun segments runningAfter scan firstByEnds first someTime allTime outlookOf endTime outlook segmentOf segmentsOf _>>=_ firstRow outside badAddress notAbove rangeRows rangesRows tooShort zipRanges rangesOf differ listRows writeRows segmentRows cornerRows word bytes4 signed unsigned field fieldTag fieldSize fieldBody fieldRest fieldRows takeField addressOf addressBody levelOf addressKind levelKind readHeader writeHeader rangeOf rangeForm rangeKind readFields readFile writeRanges writeFile fitOf readCall writeCall segmentCall cornersCall digitsWithin decimal signedDecimal timeText lineText outlookText spanText segmentLine segmentLines traceLine refusedLine traceText reportText report reportCall totalHeld commonTaken isAt either heldBy zipTaken taken onPanel kept headRanges lastTime countedIn occurrences twice outsideAddress miscounted badPanel notPanel unknown crowded roomOf panelRows addRows bumped entriesAfter putAt added addCall headRangesCall
+unfolding table run callOf resultOf all any filter reading fitsRange fits sideAt notBelow atOrAbove through throughEnds candidatesFrom candidates hasLine euclid gcd commonDivisor reduced before side between betweenSome insert sorted fitting extreme getLastD cornerOrder corners cutFrom cut lastRun segments runningAfter scan firstByEnds first someTime allTime outlookOf endTime outlook segmentOf segmentsOf _>>=_ firstRow outside badAddress notAbove rangeRows rangesRows tooShort zipRanges rangesOf differ listRows writeRows segmentRows cornerRows word bytes4 signed unsigned field fieldTag fieldSize fieldBody fieldRest fieldRows takeField addressOf addressBody levelOf addressKind levelKind readHeader writeHeader rangeOf rangeForm rangeKind readFields readFile writeRanges writeFile fitOf readCall writeCall segmentCall cornersCall digitsWithin decimal signedDecimal timeText lineText outlookText spanText segmentLine segmentLines traceLine refusedLine traceText reportText report reportCall totalHeld commonTaken isAt either heldBy zipTaken taken onPanel kept headRanges lastTime countedIn occurrences twice outsideAddress miscounted badPanel notPanel unknown crowded roomOf panelRows addRows bumped entriesAfter putAt added addCall headRangesCall longer lastOutlook effectOf previewCall
 table-holds = refl

@@ -17,6 +17,7 @@ pub mod FieldKinds
 pub mod HeaderFields
 pub mod TraceFile
 pub mod Calls
+pub mod Previews
 pub mod Report
 pub mod Panels
 pub mod PanelCalls

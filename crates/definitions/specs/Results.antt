@@ -3,6 +3,7 @@
 --     Segment, segmentOf     first and last time, number of ranges and outlook of a run
 --     timeNumber             the number of a time: 4,294,967,296 stands for none
 --     Numbers, numbersOf     the row of a segment, its eleven numbers; an open segment has 0 in the last eight
+--     OutlookNumbers, outlookNumbers, lastEight   the numbers of an outlook, by its two lines and two times, 0 in each where it is open; the last eight of a row as such
 --     rowLength              how many numbers a row has, and so how many slices Segment fills
 --
 -- Assumes nothing.
@@ -92,3 +93,17 @@ numbersOf s =
       some = someNumber (s .outlook);
       all = allNumber (s .outlook);
     }
+
+-- ---- the numbers of an outlook by themselves
+
+pub record OutlookNumbers : Type 0 where
+  pub slow : Line
+  pub fast : Line
+  pub some : ℕ
+  pub all : ℕ
+
+abbrev pub outlookNumbers : Outlook → OutlookNumbers
+outlookNumbers o = record { slow = slowLine o; fast = fastLine o; some = someNumber o; all = allNumber o }
+
+abbrev pub lastEight : Numbers → OutlookNumbers
+lastEight n = record { slow = record { p = n .slowP; q = n .slowQ; d = n .slowD }; fast = record { p = n .fastP; q = n .fastQ; d = n .fastD }; some = n .some; all = n .all }

@@ -34,7 +34,7 @@ use Rattle.definitions.specs.Ranges.{Range, Lists, rangesOf}
 use Rattle.definitions.specs.Lines.{Line, hasLine}
 use Rattle.definitions.specs.Corners.{corners}
 use Rattle.definitions.specs.Fit.{InFit, HasLine, Ordered, WeightedMean, Corner, InCornerOrder}
-use Rattle.definitions.specs.Splits.{cut, lastRun, GoodRun}
+use Rattle.definitions.specs.Splits.{GoodRun}
 use Rattle.definitions.specs.Segments.{segments, runningAfter}
 use Rattle.definitions.specs.Answers.{Answer, refused, accepted, filled}
 use Rattle.definitions.specs.Trial.{tooShort, cornerRows}
@@ -43,8 +43,8 @@ use Rattle.trial_laws.specs.RangeLists.{ranges-length}
 use Rattle.trial_laws.specs.Rows.{NoneHolds, first-row-accepted}
 use Rattle.trial_laws.specs.CallLaws.{call-accepted, bind-accepted, bind-refused}
 use Rattle.trial_laws.specs.Accepted.{AcceptedLists, corner-accepted}
-use Rattle.splits.specs.Runs.{FrontOf, flatten-snoc}
-use Rattle.splits.specs.Cutting.{cut-whole, cut-last}
+use Rattle.splits.specs.Runs.{FrontOf}
+use Rattle.splits.specs.Cutting.{cut-ends}
 use Rattle.splits.specs.OrderedRanges.{ordered-left, ordered-right}
 use Rattle.splits.specs.Segments.{running-front}
 use Rattle.lines.specs.Theorems.{corners-exact, corners-ordered, corners-once, corners-count, corners-fit, corners-mean, corners-by-diagonal, one-range-no-corner, running-has-line}
@@ -94,11 +94,7 @@ module _ (ns : List ℕ) (k : ℕ) (ls : Lists) (fit : Fit) (e : cornersCall ns 
   -- the segment running then ends the first k ranges
   ends : flatten (dropLast (segments (take k (rangesOf ls)))) ++ running ≡ take k (rangesOf ls)
   unfolding runningAfter segments
-  ends =
-      let rs = take k (rangesOf ls) in
-      sym (flatten-snoc (dropLast (cut hasLine rs)) (lastRun (cut hasLine rs)))
-      ∙ ap flatten (sym (cut-last hasLine rs (omega (arith, length-take-le k (rangesOf ls) within, proper .1))))
-      ∙ cut-whole hasLine rs
+  ends = cut-ends hasLine (take k (rangesOf ls)) (omega (arith, length-take-le k (rangesOf ls) within, proper .1))
 
   running-ordered : Ordered running
   running-ordered =

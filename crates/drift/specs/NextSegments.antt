@@ -9,32 +9,28 @@ use mathlib.Core.Path.{_≡_, refl, sym, ap, ap₂, _∙_, subst}
 use mathlib.Core.Logic.{_⊎_, inl, inr}
 use mathlib.Core.List.{List, [], _∷_, _++_, append-nil}
 use Prim.Native.Nat.{ℕ, suc, _+_, _-_, _<_, _≤_}
-use native.Mathlib.Nat.{eq-or-lt-of-le}
+use native.Mathlib.Nat.{le-refl, eq-or-lt-of-le}
 use native.Mathlib.Omega.{arith}
 use lib.ListN.{length, drop, length-take, length-drop, drop-of-length-le}
 use Rattle.definitions.specs.Services.{Service}
 use Rattle.definitions.specs.Spans.{mostTime}
 use Rattle.definitions.specs.Ranges.{Range, Lists, rangesOf}
-use Rattle.definitions.specs.Corners.{reduced}
 use Rattle.definitions.specs.Fit.{HasLine, Ordered}
 use Rattle.definitions.specs.Splits.{cut, GoodRun}
 use Rattle.definitions.specs.Segments.{segments}
-use Rattle.definitions.specs.Outlook.{Outlook, open-strip, lines, outlook, endTime}
+use Rattle.definitions.specs.Outlook.{Outlook, open-strip, outlook, endTime}
 use Rattle.definitions.specs.Results.{Segment, segmentOf, segmentsOf}
 use Rattle.trial_laws.specs.RangeLists.{rangeAt, ranges-length, ranges-drop}
 use Rattle.trial_laws.specs.Accepted.{AcceptedLists}
 use Rattle.splits.specs.Greedy.{cut-one-run, cut-first-run}
-use Rattle.splits.specs.OrderedRanges.{lastTimeOf, last-append}
-use Rattle.chains.specs.Results.{slow, fast}
-use Rattle.lines.specs.OutlookTimes.{reachTime}
 use Rattle.lines.specs.Polygon.{decides}
-use Rattle.lines.specs.RunOutlook.{outlook-by-lines}
 use Rattle.drift_laws.specs.ChainParts.{Chain}
 use Rattle.drift_laws.specs.RunsByPlace.{run, run-one, run-two, run-more, run-rest, run-ordered}
 use Rattle.fit.specs.declared.run.Reach.{Reach}
 use Rattle.values.specs.Meanings.{lineOf}
 use Rattle.values.specs.Reach.{lookAhead}
 use Rattle.fit.specs.RunsFrom.{RunFrom}
+use Rattle.fit.specs.RunOutlooks.{run-last, run-outlook}
 use Rattle.drift.specs.Filling.{NextSegment}
 
 -- a run of at least one range is not empty
@@ -96,43 +92,18 @@ module _ {ls : Lists} (a : AcceptedLists ls) {i : ℕ} {up down : Chain} {r : Re
       (ap (λ k. segmentOf v (run ls i k)) e ∙ ap (segmentOf v) (run-one ls a i (omega arith)) ∙ λ j. record { firstTime = rangeAt ls i .time; lastTime = rangeAt ls (sym last j) .time; count = sym one j; outlook = open-strip })
       refl
 
-  module _ (h : i + 2 ≤ r .end) (late : rangeAt ls (r .end - 1) .time ≤ mostTime) where
-    run-is : run ls i (r .end) ≡ rangeAt ls i ∷ rangeAt ls (i + 1) ∷ run ls (i + 2) (r .end)
-    run-is = run-two ls a i (r .end) h (f .within)
-
-    ordered : Ordered (rangeAt ls i ∷ rangeAt ls (i + 1) ∷ run ls (i + 2) (r .end))
-    ordered = subst Ordered run-is (run-ordered ls a i (r .end))
-
-    line : HasLine (rangeAt ls i ∷ rangeAt ls (i + 1) ∷ run ls (i + 2) (r .end))
-    line = subst HasLine run-is (f .line)
-
-    last-time : endTime (rangeAt ls (i + 1)) (run ls (i + 2) (r .end)) ≡ rangeAt ls (r .end - 1) .time
-    unfolding lastTimeOf endTime
-    last-time =
-        let b = f .begins in
-        let w = f .within in
-        let k = r .end - 1 in
-        let m : k + 1 ≡ r .end = omega arith in
-        ap lastTimeOf (sym run-is ∙ ap (run ls i) (sym m) ∙ run-more ls a i k (omega arith) (omega arith)) ∙ last-append (run ls i k) (rangeAt ls k) []
-
-    look-is : outlook v (rangeAt ls i ∷ rangeAt ls (i + 1) ∷ run ls (i + 2) (r .end)) ≡ lookAhead (lineOf (r .polygon .slow)) (lineOf (r .polygon .fast)) v (rangeAt ls (r .end - 1) .time)
-    look-is =
-        let z = f .polygon-is h in
-        let s = rangeAt ls i in
-        let t = rangeAt ls (i + 1) in
-        let ws = run ls (i + 2) (r .end) in
-        let last = rangeAt ls (r .end - 1) .time in
-        let k = slow s t ws in
-        let l = fast s t ws in
-        outlook-by-lines s t ws ordered line (subst (λ x. x ≤ mostTime) (sym last-time) late) v
-        ∙ ap (λ x. lines (reduced k) (reduced l) (reachTime v x l) (reachTime v x k)) last-time
-        ∙ ap₂ (λ x y. lookAhead x y v last) (sym (z .slow-is)) (sym (z .fast-is))
-
-    pub next-lines : NextSegment v ls i (foundAt ls i (r .end) (lookAhead (lineOf (r .polygon .slow)) (lineOf (r .polygon .fast)) v (rangeAt ls (r .end - 1) .time)))
-    unfolding segmentOf endTime
-    next-lines =
-        let n : length (run ls i (r .end)) ≡ r .end - i = run-long ls a i (r .end) (f .begins) (f .within) in
-        next-is ls a i (r .end) (f .begins) (f .within) (f .line) (f .closed) v _
-        (ap (segmentOf v) run-is
-        ∙ λ j. record { firstTime = rangeAt ls i .time; lastTime = last-time j; count = (ap length (sym run-is) ∙ n) j; outlook = look-is j })
-        refl
+  pub next-lines : i + 2 ≤ r .end → rangeAt ls (r .end - 1) .time ≤ mostTime
+      → NextSegment v ls i (foundAt ls i (r .end) (lookAhead (lineOf (r .polygon .slow)) (lineOf (r .polygon .fast)) v (rangeAt ls (r .end - 1) .time)))
+  unfolding segmentOf endTime
+  next-lines h late =
+      let run-is = run-two ls a i (r .end) h (f .within) in
+      let n : length (run ls i (r .end)) ≡ r .end - i = run-long ls a i (r .end) (f .begins) (f .within) in
+      next-is ls a i (r .end) (f .begins) (f .within) (f .line) (f .closed) v _
+      (ap (segmentOf v) run-is
+      ∙ λ j. record {
+        firstTime = rangeAt ls i .time;
+        lastTime = run-last a (le-refl _) f h j;
+        count = (ap length (sym run-is) ∙ n) j;
+        outlook = (ap (outlook v) (sym run-is) ∙ run-outlook a (le-refl _) f h late v) j;
+      })
+      refl

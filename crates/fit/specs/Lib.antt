@@ -4,4 +4,6 @@ pub mod Polygons
 pub mod Cuts
 pub mod Joins
 pub mod RunsFrom
+pub mod RunsOn
 pub mod LastRuns
+pub mod RunOutlooks

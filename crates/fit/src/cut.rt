@@ -234,7 +234,7 @@ fn cut_to_point(
 }
 
 // The polygon after a range that joins the run.
-pub fn join(
+pub(crate) fn join(
     up_times: &mut [u32],
     up_values: &mut [i32],
     down_times: &mut [u32],

@@ -27,7 +27,7 @@ pub struct End {
 }
 
 // The range at a place of the lent lists.
-pub(crate) fn range_at(times: &[u32], highs: &[i32], lows: &[i32], k: usize) -> Range
+pub fn range_at(times: &[u32], highs: &[i32], lows: &[i32], k: usize) -> Range
     requires { ⌜ InList (lent (now times) (now highs) (now lows)) k ⌝ }
     ensures { λ r. ⌜ rangeOf r ≡ rangeAt (lent (now (times .entry)) (now (highs .entry)) (now (lows .entry))) k ⌝ }
 {

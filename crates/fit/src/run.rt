@@ -1,4 +1,6 @@
 // The run that begins at a range and goes as far as some line fits it.
+ghost use mathlib.Core.Path.{_≡_};
+ghost use mathlib.Core.Bool.{false};
 ghost use Prim.Native.Nat.{_+_, _-_, _<_, _≤_};
 ghost use lib.ListN.{length};
 ghost use Rattle.trial_laws.specs.Accepted.{ProperRange, AcceptedLists};
@@ -6,7 +8,9 @@ ghost use Rattle.drift_laws.specs.RangeEnds.{lent};
 ghost use Rattle.drift_laws.specs.ChainParts.{chain, Long};
 ghost use Rattle.values.specs.Small.{Bounded};
 ghost use Rattle.fit.specs.RangesByValue.{rangeOf};
+ghost use Rattle.fit.specs.Polygons.{Shape};
 ghost use Rattle.fit.specs.RunsFrom.{Closing, RunFrom};
+ghost use Rattle.fit.specs.RunsOn.{GoneOn, TwoRoom, Opened, RunReady, RunOn};
 use crate::cut::begin;
 use crate::cut::join;
 use crate::ends::Range;
@@ -39,8 +43,8 @@ fn closes(slow: Line, fast: Line, r: Range) -> bool
     if reaches(fast, low) { false } else { true }
 }
 
-// The run of two or more ranges from range i on, among the first n.
-fn extend(
+// A polygon goes on over the ranges from a place on, among the first n, until one closes the run. The ranges before them need not stand in these slices.
+fn go_on(
     times: &[u32],
     highs: &[i32],
     lows: &[i32],
@@ -48,16 +52,15 @@ fn extend(
     up_values: &mut [i32],
     down_times: &mut [u32],
     down_values: &mut [i32],
-    i: usize,
+    before: Polygon,
+    from: usize,
     n: usize,
 ) -> Reach
-    requires { ⌜ (AcceptedLists (lent (now times) (now highs) (now lows))) × (i + 1 < n) × (n ≤ length (now times)) × (Long (n - i) (chain (now «up_times») (now «up_values»))) × (Long (n - i) (chain (now «down_times») (now «down_values»))) ⌝ }
-    ensures { λ r. ⌜ RunFrom (lent (now (times .entry)) (now (highs .entry)) (now (lows .entry))) i n (chain (now («up_times» .exit)) (now («up_values» .exit))) (chain (now («down_times» .exit)) (now («down_values» .exit))) r ⌝ }
+    requires { ⌜ (AcceptedLists (lent (now times) (now highs) (now lows))) × (from ≤ n) × (n ≤ length (now times)) × (Shape before (chain (now «up_times») (now «up_values»)) (chain (now «down_times») (now «down_values»))) × (Long (before .upper .end + (n - from)) (chain (now «up_times») (now «up_values»))) × (Long (before .lower .end + (n - from)) (chain (now «down_times») (now «down_values»))) ⌝ }
+    ensures { λ r. ⌜ GoneOn (lent (now (times .entry)) (now (highs .entry)) (now (lows .entry))) (chain (now («up_times» .entry)) (now («up_values» .entry))) (chain (now («down_times» .entry)) (now («down_values» .entry))) before from n (chain (now («up_times» .exit)) (now («up_values» .exit))) (chain (now («down_times» .exit)) (now («down_values» .exit))) r ⌝ }
 {
-    let first = range_at(times, highs, lows, i);
-    let second = range_at(times, highs, lows, i + 1);
-    let mut x = begin(up_times, up_values, down_times, down_values, first, second);
-    let mut k = i + 2;
+    let mut x = before;
+    let mut k = from;
     while k < n {
         let slow = x.slow;
         let fast = x.fast;
@@ -69,6 +72,88 @@ fn extend(
         k += 1;
     }
     Reach { end: k, polygon: x }
+}
+
+// Where a run stands before it goes on: as it was handed on if it has begun, and else after its first two ranges.
+fn opened(
+    times: &[u32],
+    highs: &[i32],
+    lows: &[i32],
+    up_times: &mut [u32],
+    up_values: &mut [i32],
+    down_times: &mut [u32],
+    down_values: &mut [i32],
+    before: Polygon,
+    begun: bool,
+    from: usize,
+) -> Reach
+    requires { ⌜ (AcceptedLists (lent (now times) (now highs) (now lows))) × (begun ≡ false → TwoRoom (lent (now times) (now highs) (now lows)) (chain (now «up_times») (now «up_values»)) (chain (now «down_times») (now «down_values»)) from) ⌝ }
+    ensures { λ r. ⌜ Opened (lent (now (times .entry)) (now (highs .entry)) (now (lows .entry))) (chain (now («up_times» .entry)) (now («up_values» .entry))) (chain (now («down_times» .entry)) (now («down_values» .entry))) before begun from (chain (now («up_times» .exit)) (now («up_values» .exit))) (chain (now («down_times» .exit)) (now («down_values» .exit))) r ⌝ }
+{
+    if begun {
+        return Reach {
+            end: from,
+            polygon: before,
+        };
+    }
+    let first = range_at(times, highs, lows, from);
+    let second = range_at(times, highs, lows, from + 1);
+    let two = begin(up_times, up_values, down_times, down_values, first, second);
+    Reach {
+        end: from + 2,
+        polygon: two,
+    }
+}
+
+// The run from a range on, among the first n; or, if one has begun, how far that goes on from there. A run of one range has no polygon, and gets what was handed on.
+// All runs go through here, so that the loop stands once in what is compiled, with the whole of a step put into it.
+pub fn run_on(
+    times: &[u32],
+    highs: &[i32],
+    lows: &[i32],
+    up_times: &mut [u32],
+    up_values: &mut [i32],
+    down_times: &mut [u32],
+    down_values: &mut [i32],
+    before: Polygon,
+    begun: bool,
+    from: usize,
+    n: usize,
+) -> Reach
+    requires { ⌜ RunReady (lent (now times) (now highs) (now lows)) (chain (now «up_times») (now «up_values»)) (chain (now «down_times») (now «down_values»)) before begun from n ⌝ }
+    ensures { λ r. ⌜ RunOn (lent (now (times .entry)) (now (highs .entry)) (now (lows .entry))) (chain (now («up_times» .entry)) (now («up_values» .entry))) (chain (now («down_times» .entry)) (now («down_values» .entry))) before begun from n (chain (now («up_times» .exit)) (now («up_values» .exit))) (chain (now («down_times» .exit)) (now («down_values» .exit))) r ⌝ }
+{
+    if !begun && n - from < 2 {
+        return Reach {
+            end: n,
+            polygon: before,
+        };
+    }
+    let run = opened(
+        times,
+        highs,
+        lows,
+        up_times,
+        up_values,
+        down_times,
+        down_values,
+        before,
+        begun,
+        from,
+    );
+    let polygon = run.polygon;
+    go_on(
+        times,
+        highs,
+        lows,
+        up_times,
+        up_values,
+        down_times,
+        down_values,
+        polygon,
+        run.end,
+        n,
+    )
 }
 
 // The polygon that stands for none.
@@ -98,14 +183,8 @@ pub fn run_from(
     requires { ⌜ (AcceptedLists (lent (now times) (now highs) (now lows))) × (i < n) × (n ≤ length (now times)) × (Long (n - i) (chain (now «up_times») (now «up_values»))) × (Long (n - i) (chain (now «down_times») (now «down_values»))) ⌝ }
     ensures { λ r. ⌜ RunFrom (lent (now (times .entry)) (now (highs .entry)) (now (lows .entry))) i n (chain (now («up_times» .exit)) (now («up_values» .exit))) (chain (now («down_times» .exit)) (now («down_values» .exit))) r ⌝ }
 {
-    if n - i < 2 {
-        let none = no_polygon();
-        return Reach {
-            end: n,
-            polygon: none,
-        };
-    }
-    extend(
+    let none = no_polygon();
+    run_on(
         times,
         highs,
         lows,
@@ -113,6 +192,8 @@ pub fn run_from(
         up_values,
         down_times,
         down_values,
+        none,
+        false,
         i,
         n,
     )

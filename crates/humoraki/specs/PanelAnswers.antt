@@ -8,14 +8,12 @@
 --
 -- Assumes nothing.
 use Prim.Native.Nat.{ℕ, zero, suc, _<_}
-use mathlib.Core.Path.{_≡_, refl, sym, ap, _∙_, subst}
+use mathlib.Core.Path.{_≡_, refl, ap, _∙_, subst}
 use mathlib.Core.List.{List, [], _∷_, _++_, append-nil}
 use native.Mathlib.Omega.{arith}
 use lib.ListN.{length}
-use Rattle.definitions.specs.Answers.{Answer, accepted, _>>=_, given}
 use Rattle.definitions.specs.Ranges.{Range}
 use Rattle.definitions.specs.Panels.{Panel, Taken, totalHeld}
-use Rattle.trial_laws.specs.Rows.{refusal-above}
 use Rattle.panel.specs.declared.HeadRangesAnswer.{HeadRangesAnswer}
 use Rattle.panel.specs.declared.HeadRangesAnswer.the-variants.{Accepted, Refused}
 use Rattle.panel.specs.Promises.{headRangesMeaning, AddPromise, HeadRangesPromise}
@@ -24,7 +22,7 @@ use Rattle.panel.specs.AdmissionLaws.{meaning-of}
 use Rattle.panel.specs.Courses.{Course, begun, then-add, then-ranges, acceptedBy}
 use Rattle.panel_laws.specs.AddLaws.{AllEmpty}
 use Rattle.panel.specs.PanelTheorems.{places-add-up}
-use Rattle.humoraki.specs.Promises.{Counts, AfterAdd, HeadRangesLent, headRangesAnswer, AfterHeadRanges}
+use Rattle.humoraki.specs.Promises.{AfterAdd, HeadRangesLent, headRangesAnswer, AfterHeadRanges}
 use Rattle.humoraki.specs.Zero as Zero
 
 pub add-below : {old : Panel} {a : ℕ} {r : Range} {new : Panel} {number : ℕ} → AfterAdd old a r new number → AddPromise old a r (answerOf number) new
@@ -34,16 +32,14 @@ unfoldable pub rangesAnswer : ℕ → ℕ → HeadRangesAnswer
 rangesAnswer zero count = Accepted count
 rangesAnswer (suc n) count = Refused (suc n)
 
-ranges-mean : (call : Answer (List Range)) (old count number : ℕ) → Counts call length old count number → (number ≡ 0 → Zero.Accepted call) → headRangesMeaning (rangesAnswer number count) ≡ (call >>= λ rs. accepted (length rs))
-unfolding headRangesMeaning rangesAnswer _>>=_ given
-ranges-mean call old count zero counts some =
-    let found = some refl in
-    ap accepted (counts .count-is ∙ ap (λ x. given x length old) (found .1)) ∙ sym (ap (λ x. x >>= λ rs. accepted (length rs)) (found .1))
-ranges-mean call old count (suc n) counts some = sym (ap (λ x. x >>= λ rs. accepted (length rs)) (refusal-above call (suc n) (sym (counts .number-is)) (omega arith)))
+ranges-mean : (number count : ℕ) → headRangesMeaning (rangesAnswer number count) ≡ Zero.numberAnswer number count
+unfolding headRangesMeaning rangesAnswer Zero.numberAnswer
+ranges-mean zero count = refl
+ranges-mean (suc n) count = refl
 
 pub head-ranges-below : {s : Panel} {a : ℕ} {old new : HeadRangesLent} {number : ℕ} → AfterHeadRanges s a old new number → HeadRangesPromise s a (old .lists) (new .lists) (rangesAnswer number (new .count))
 head-ranges-below {s} {a} {old} {new} {number} after =
-    record { answer-is = ranges-mean (headRangesAnswer s a old) (old .count) (new .count) number (after .counted) (Zero.head-ranges-zero after .0); times-are = after .times-are; lows-are = after .lows-are; highs-are = after .highs-are }
+    record { answer-is = ranges-mean number (new .count) ∙ Zero.counted-mean (headRangesAnswer s a old) length (old .count) (new .count) number (after .counted) (Zero.head-ranges-zero after .0); times-are = after .times-are; lows-are = after .lows-are; highs-are = after .highs-are }
 
 -- ---- calls one after the other
 

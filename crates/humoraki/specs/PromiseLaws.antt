@@ -3,7 +3,7 @@
 --     number-told, value-told, counts-told                    what tells of a result gives the same number, lent number and lent count as the result
 --     number-accepted, given-accepted, counts-accepted        what an accepted answer gives
 --     number-refused, given-refused, counts-refused           what a refused one gives
---     after-read, after-write, after-segment, after-corners, after-report, after-add, after-head-ranges   the promise of each call, from that of the call below and the numbers that its answer is given as
+--     after-read, after-write, after-segment, after-corners, after-preview, after-report, after-add, after-head-ranges   the promise of each call, from that of the call below and the numbers that its answer is given as
 --
 -- Assumes nothing.
 use Prim.Native.Nat.{ℕ}
@@ -15,8 +15,10 @@ use Rattle.definitions.specs.Ranges.{Range, Lists}
 use Rattle.definitions.specs.Headers.{Header}
 use Rattle.definitions.specs.Answers.{Answer, refused, accepted, _>>=_, refusal, given}
 use Rattle.definitions.specs.Calls.{Fit, open-strip, bounded}
+use Rattle.definitions.specs.Previews.{kindNumber, effectOutlook}
 use Rattle.definitions.specs.Panels.{Panel}
 use Rattle.definitions.specs.PanelCalls.{addCall}
+use Rattle.definitions.specs.Results.{outlookNumbers}
 use Rattle.trial_laws.specs.CallLaws.{refusal-tells}
 use Rattle.trace.specs.declared.ReadAnswer.{ReadAnswer}
 use Rattle.trace.specs.declared.WriteAnswer.{WriteAnswer}
@@ -25,12 +27,14 @@ use Rattle.drift.specs.declared.SegmentAnswer.{SegmentAnswer}
 use Rattle.drift.specs.declared.CornersAnswer.{CornersAnswer}
 use Rattle.drift.specs.SegmentPromise.{segmentMeaning, SegmentPromise}
 use Rattle.drift.specs.CornersPromise.{countOf, cornersIn, cornersMeaning, CornersPromise}
+use Rattle.preview.specs.declared.PreviewAnswer.{PreviewAnswer}
+use Rattle.preview.specs.PreviewPromise.{previewMeaning, PreviewPromise}
 use Rattle.report_text.specs.declared.ReportAnswer.{ReportAnswer}
 use Rattle.report_text.specs.ReportPromise.{reportMeaning, ReportPromise}
 use Rattle.panel.specs.declared.AddAnswer.{AddAnswer}
 use Rattle.panel.specs.declared.HeadRangesAnswer.{HeadRangesAnswer}
 use Rattle.panel.specs.Promises.{addMeaning, AddPromise, headRangesMeaning, HeadRangesPromise}
-use Rattle.humoraki.specs.Promises.{Counts, ReadLent, readAnswer, AfterRead, WriteLent, AfterWrite, SegmentLent, segmentAnswer, AfterSegment, CornersLent, cornersAnswer, cornerNumber, AfterCorners, ReportLent, reportAnswer, AfterReport, AfterAdd, HeadRangesLent, headRangesAnswer, AfterHeadRanges}
+use Rattle.humoraki.specs.Promises.{Counts, ReadLent, readAnswer, AfterRead, WriteLent, AfterWrite, SegmentLent, segmentAnswer, AfterSegment, CornersLent, cornersAnswer, cornerNumber, AfterCorners, PreviewLent, AfterPreview, ReportLent, reportAnswer, AfterReport, AfterAdd, HeadRangesLent, headRangesAnswer, AfterHeadRanges}
 
 given-tells : {A B C : Type 0} (tells : B → A) (below : Answer B) (of-told : A → C) (of-result : B → C) → ((b : B) → of-told (tells b) ≡ of-result b) → (old : C)
     → given (below >>= λ b. accepted (tells b)) of-told old ≡ given below of-result old
@@ -113,6 +117,18 @@ after-corners k ls old new h counts =
       ps-are = h .ps-are;
       qs-are = h .qs-are;
       ds-are = h .ds-are;
+    }
+
+pub after-preview : (level : ℤ) (ls : Lists) (r : Range) (old new : PreviewLent) {answer : PreviewAnswer} → PreviewPromise (record { level = level }) ls r answer
+    → {number : ℕ} → number ≡ refusal (previewMeaning answer)
+    → new .kind ≡ given (previewMeaning answer) kindNumber (old .kind)
+    → new .numbers ≡ given (previewMeaning answer) (λ e. outlookNumbers (effectOutlook e)) (old .numbers)
+    → AfterPreview level ls r old new number
+after-preview level ls r old new h number kind numbers =
+    record {
+      number-is = number ∙ ap refusal (h .answer-is);
+      kind-is = kind ∙ ap (λ x. given x kindNumber (old .kind)) (h .answer-is);
+      numbers-are = numbers ∙ ap (λ x. given x (λ e. outlookNumbers (effectOutlook e)) (old .numbers)) (h .answer-is);
     }
 
 pub after-report : (file : List ℕ) (old new : ReportLent) {answer : ReportAnswer} {r : ℕ} → ReportPromise file (old .text) (new .text) answer

@@ -2,8 +2,10 @@
 --
 --     Counts                                               the number and the lent count after a call with a count
 --     cornerNumber                                         what the answer of Corners tells of a fit, as a count
---     ReadLent, WriteLent, SegmentLent, CornersLent, ReportLent, HeadRangesLent   what a caller lends to be filled or set; Add is lent a panel
---     AfterRead, AfterWrite, AfterSegment, AfterCorners, AfterReport, AfterAdd, AfterHeadRanges   the number, and what holds of all that after the call
+--     eight                                                an outlook's numbers, from the eight that are lent to Preview
+--     readAnswer, segmentAnswer, cornersAnswer, previewAnswer, reportAnswer, headRangesAnswer   the scope's call on what was lent
+--     ReadLent, WriteLent, SegmentLent, CornersLent, PreviewLent, ReportLent, HeadRangesLent   what a caller lends to be filled or set; Add is lent a panel
+--     AfterRead, AfterWrite, AfterSegment, AfterCorners, AfterPreview, AfterReport, AfterAdd, AfterHeadRanges   the number, and what holds of all that after the call
 --
 -- The number is 0 where the call is accepted. Where it is refused, everything that was lent holds its old contents: so say `given` and `filled`.
 --
@@ -17,10 +19,11 @@ use lib.IntN.{ℤ}
 use lib.ListN.{length}
 use Rattle.definitions.specs.Ranges.{Range, Lists}
 use Rattle.definitions.specs.Headers.{Header}
-use Rattle.definitions.specs.Results.{Segment, numbersOf}
+use Rattle.definitions.specs.Results.{Segment, numbersOf, OutlookNumbers, outlookNumbers}
 use Rattle.definitions.specs.Answers.{Answer, refusal, filled, given}
 use Rattle.definitions.specs.TraceFile.{Trace}
 use Rattle.definitions.specs.Calls.{Fit, segmentCall, cornersCall}
+use Rattle.definitions.specs.Previews.{Effect, previewCall, kindNumber, effectOutlook}
 use Rattle.definitions.specs.Report.{reportCall}
 use Rattle.definitions.specs.Panels.{Panel}
 use Rattle.definitions.specs.PanelCalls.{headRangesCall}
@@ -100,6 +103,23 @@ pub record AfterCorners (k : ℕ) (ls : Lists) (old new : CornersLent) (r : ℕ)
   pub ps-are : new .ps ≡ filled (cornersAnswer k ls old) (λ fit. map (λ l. l .p) (cornersIn fit)) (old .ps)
   pub qs-are : new .qs ≡ filled (cornersAnswer k ls old) (λ fit. map (λ l. l .q) (cornersIn fit)) (old .qs)
   pub ds-are : new .ds ≡ filled (cornersAnswer k ls old) (λ fit. map (λ l. l .d) (cornersIn fit)) (old .ds)
+
+-- ---- Preview
+
+abbrev pub eight : ℤ → ℤ → ℤ → ℤ → ℤ → ℤ → ℕ → ℕ → OutlookNumbers
+eight a b c x y z some all = record { slow = record { p = a; q = b; d = c }; fast = record { p = x; q = y; d = z }; some = some; all = all }
+
+pub record PreviewLent : Type 0 where
+  pub kind : ℕ
+  pub numbers : OutlookNumbers
+
+abbrev pub previewAnswer : ℤ → Lists → Range → Answer Effect
+previewAnswer level ls r = previewCall (record { level = level }) ls r
+
+pub record AfterPreview (level : ℤ) (ls : Lists) (r : Range) (old new : PreviewLent) (number : ℕ) : Type 0 where
+  pub number-is : number ≡ refusal (previewAnswer level ls r)
+  pub kind-is : new .kind ≡ given (previewAnswer level ls r) kindNumber (old .kind)
+  pub numbers-are : new .numbers ≡ given (previewAnswer level ls r) (λ e. outlookNumbers (effectOutlook e)) (old .numbers)
 
 -- ---- the report
 

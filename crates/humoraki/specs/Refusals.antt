@@ -1,7 +1,7 @@
 -- When the library gives which number, as theorems about the number that a caller holds.
 --
---     read-number, write-number, segment-number, corners-number, report-number, add-number, head-ranges-number   a number above 0 exactly if a row with it holds and no row that is tried earlier does
---     read-none, write-none, segment-none, corners-none, report-none, add-none, head-ranges-none                 0 exactly if no row holds
+--     read-number, write-number, segment-number, corners-number, preview-number, report-number, add-number, head-ranges-number   a number above 0 exactly if a row with it holds and no row that is tried earlier does
+--     read-none, write-none, segment-none, corners-none, preview-none, report-none, add-none, head-ranges-none                 0 exactly if no row holds
 --
 -- Assumes nothing.
 use Prim.Native.Nat.{ℕ, _<_}
@@ -18,19 +18,21 @@ use Rattle.definitions.specs.Answers.{Answer, accepted, _>>=_, Row, _if_, first
 use Rattle.definitions.specs.Trial.{tooShort, writeRows, segmentRows, cornerRows}
 use Rattle.definitions.specs.TraceFile.{writeFile}
 use Rattle.definitions.specs.Calls.{fitOf, writeCall, segmentCall, cornersCall}
+use Rattle.definitions.specs.Previews.{previewRows}
 use Rattle.definitions.specs.Report.{report, reportRoom, reportCall}
 use Rattle.definitions.specs.Panels.{Panel, onPanel, headRanges}
 use Rattle.definitions.specs.PanelCalls.{roomOf, panelRows, addRows, added, addCall, headRangesCall}
 use Rattle.trial_laws.specs.Rows.{NoneHolds, FirstAt, refusal-above}
 use Rattle.trial_laws.specs.CallLaws.{call-refused, call-accepted}
+use Rattle.trial_laws.specs.LongerLists.{effectOn, preview-by-rows}
 use Rattle.trace_laws.specs.FileRows.{readRows, fileTrace}
 use Rattle.trace_laws.specs.RoundTrip.{traceOf}
 use Rattle.trace_laws.specs.TraceLaws.{read-by-rows}
 use Rattle.drift.specs.Columns.{lengths}
 use Rattle.drift.specs.CornersPromise.{threeLengths}
 use Rattle.panel.specs.Promises.{lengthsOf}
-use Rattle.humoraki.specs.Promises.{ReadLent, AfterRead, WriteLent, AfterWrite, SegmentLent, AfterSegment, CornersLent, AfterCorners, ReportLent, AfterReport, AfterAdd, HeadRangesLent, AfterHeadRanges}
-use Rattle.humoraki.specs.Zero.{Accepted, read-zero, write-zero, segment-zero, corners-zero, report-zero, add-zero, head-ranges-zero}
+use Rattle.humoraki.specs.Promises.{ReadLent, AfterRead, WriteLent, AfterWrite, SegmentLent, AfterSegment, CornersLent, AfterCorners, PreviewLent, AfterPreview, ReportLent, AfterReport, AfterAdd, HeadRangesLent, AfterHeadRanges}
+use Rattle.humoraki.specs.Zero.{Accepted, read-zero, write-zero, segment-zero, corners-zero, preview-zero, report-zero, add-zero, head-ranges-zero}
 
 -- the number of a call that tries its rows and then gives a result
 module _ {A : Type 0} (rows : List Row) (a : A) {answer : Answer A} (is : answer ≡ (firstRow rows >>= λ ok. accepted a)) {r : ℕ} where
@@ -86,6 +88,16 @@ module _ {k : ℕ} {ls : Lists} {old new : CornersLent} {r : ℕ} (after : After
   pub corners-none : (r ≡ 0) ↔ NoneHolds rows-of-corners
   unfolding cornersCall
   corners-none = none-exactly rows-of-corners (fitOf (runningAfter k (rangesOf ls))) refl (corners-zero after)
+
+module _ {level : ℤ} {ls : Lists} {range : Range} {old new : PreviewLent} {r : ℕ} (after : AfterPreview level ls range old new r) where
+  abbrev rows-of-preview : List Row
+  rows-of-preview = previewRows (record { level = level }) ls range
+
+  pub preview-number : (n : ℕ) → 0 < n → (r ≡ n) ↔ FirstAt n rows-of-preview
+  preview-number = exactly rows-of-preview (effectOn (record { level = level }) ls range) (preview-by-rows (record { level = level }) ls range) (after .number-is)
+
+  pub preview-none : (r ≡ 0) ↔ NoneHolds rows-of-preview
+  preview-none = none-exactly rows-of-preview (effectOn (record { level = level }) ls range) (preview-by-rows (record { level = level }) ls range) (preview-zero after)
 
 module _ {file : List ℕ} {old new : ReportLent} {r : ℕ} (after : AfterReport file old new r) where
   abbrev rows-of-report : List Row

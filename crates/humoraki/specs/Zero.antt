@@ -1,11 +1,12 @@
 -- The number that the library gives is 0 exactly where the call is accepted: no refusal has the number 0.
 --
 --     Accepted answer                                    the answer is accepted, with some result
---     read-zero, write-zero, segment-zero, corners-zero, report-zero, add-zero, head-ranges-zero   of each call
+--     numberAnswer, counted-mean                         what a number and a count tell, 0 being acceptance; after a call with a count that is the call's answer
+--     read-zero, write-zero, segment-zero, corners-zero, preview-zero, report-zero, add-zero, head-ranges-zero   of each call
 --
 -- Assumes nothing.
-use Prim.Native.Nat.{ℕ, _<_}
-use mathlib.Core.Path.{_≡_, refl, sym}
+use Prim.Native.Nat.{ℕ, zero, suc, _<_}
+use mathlib.Core.Path.{_≡_, refl, sym, ap, _∙_}
 use mathlib.Core.Logic.{_↔_}
 use mathlib.Core.Bool.{true, false}
 use mathlib.Core.List.{List, [], _∷_}
@@ -13,20 +14,24 @@ use native.Mathlib.Omega.{arith}
 use lib.IntN.{ℤ}
 use Rattle.definitions.specs.Times.{none}
 use Rattle.definitions.specs.Ranges.{Range, Lists, rangesOf}
+use Rattle.definitions.specs.Services.{Service}
 use Rattle.definitions.specs.Headers.{Header}
-use Rattle.definitions.specs.Answers.{Answer, refused, accepted, _>>=_, Row, _if_, firstRow, refusal}
+use Rattle.definitions.specs.Answers.{Answer, refused, accepted, _>>=_, Row, _if_, firstRow, refusal, given}
 use Rattle.definitions.specs.Trial.{rangesRows, listRows, writeRows, segmentRows, cornerRows}
 use Rattle.definitions.specs.Calls.{writeCall, segmentCall, cornersCall}
+use Rattle.definitions.specs.Previews.{longer, previewRows}
 use Rattle.definitions.specs.Report.{reportCall}
 use Rattle.definitions.specs.Panels.{Panel}
 use Rattle.definitions.specs.PanelCalls.{panelRows, addRows, addCall, headRangesCall}
-use Rattle.trial_laws.specs.Rows.{Numbered, Numbered-append, refused-not-accepted}
+use Rattle.trial_laws.specs.Rows.{Numbered, Numbered-append, refused-not-accepted, refusal-above}
 use Rattle.trial_laws.specs.CallLaws.{refused-is, bind-refused}
 use Rattle.trial_laws.specs.ListTrial.{countRows, ranges-numbered}
+use Rattle.trial_laws.specs.LongerLists.{effectOn, preview-by-rows}
 use Rattle.trace_laws.specs.TraceLaws.{read-number}
 use Rattle.trace.specs.Promises.{writeInto}
+use Rattle.drift.specs.Columns.{lengths}
 use Rattle.panel.specs.AdmissionLaws.{all-numbered}
-use Rattle.humoraki.specs.Promises.{ReadLent, readAnswer, AfterRead, WriteLent, AfterWrite, SegmentLent, segmentAnswer, AfterSegment, CornersLent, cornersAnswer, AfterCorners, ReportLent, reportAnswer, AfterReport, AfterAdd, HeadRangesLent, headRangesAnswer, AfterHeadRanges}
+use Rattle.humoraki.specs.Promises.{Counts, ReadLent, readAnswer, AfterRead, WriteLent, AfterWrite, SegmentLent, segmentAnswer, AfterSegment, CornersLent, cornersAnswer, AfterCorners, PreviewLent, previewAnswer, AfterPreview, ReportLent, reportAnswer, AfterReport, AfterAdd, HeadRangesLent, headRangesAnswer, AfterHeadRanges}
 
 abbrev pub Accepted : {A : Type 0} → Answer A → Type 0
 Accepted {A} answer = (a : A) × (answer ≡ accepted a)
@@ -50,6 +55,17 @@ rows-above ((m if false) ∷ rows) h n e = rows-above rows (h .1) n e
 call-above : {A : Type 0} (rows : List Row) (a : A) → Numbered rows → Above (firstRow rows >>= λ ok. accepted a)
 call-above rows a h n e = rows-above rows h n (bind-refused (firstRow rows) (λ ok. a) n e)
 
+unfoldable pub numberAnswer : ℕ → ℕ → Answer ℕ
+numberAnswer zero count = accepted count
+numberAnswer (suc n) count = refused (suc n)
+
+pub counted-mean : {A : Type 0} (call : Answer A) (size : A → ℕ) (old count number : ℕ) → Counts call size old count number → (number ≡ 0 → Accepted call) → numberAnswer number count ≡ (call >>= λ a. accepted (size a))
+unfolding numberAnswer _>>=_ given
+counted-mean call size old count zero counts some =
+    let found = some refl in
+    ap accepted (counts .count-is ∙ ap (λ x. given x size old) (found .1)) ∙ sym (ap (λ x. x >>= λ a. accepted (size a)) (found .1))
+counted-mean call size old count (suc n) counts some = sym (ap (λ x. x >>= λ a. accepted (size a)) (refusal-above call (suc n) (sym (counts .number-is)) (omega arith)))
+
 pub read-zero : {file : List ℕ} {old new : ReadLent} {r : ℕ} → AfterRead file old new r → (r ≡ 0) ↔ Accepted (readAnswer file old)
 read-zero {file} {old} h = zero-exactly (readAnswer file old) (λ n e. let m = read-number _ file n e .0 in omega arith) (h .number-is)
 
@@ -58,14 +74,23 @@ unfolding writeCall writeRows listRows
 write-zero {h} {ls} {old} after =
     zero-exactly (writeInto (old .file) h ls) (call-above _ _ (omega arith, (omega arith, (omega arith, (omega arith, (omega arith, ranges-numbered none (rangesOf ls))))))) (after .counted .number-is)
 
+segment-numbered : (lengths : List ℕ) (v : Service) (ls : Lists) → Numbered (segmentRows lengths v ls)
+unfolding segmentRows listRows
+segment-numbered lengths v ls = (omega arith, (omega arith, (omega arith, (omega arith, ranges-numbered none (rangesOf ls)))))
+
 pub segment-zero : {level : ℤ} {ls : Lists} {old new : SegmentLent} {r : ℕ} → AfterSegment level ls old new r → (r ≡ 0) ↔ Accepted (segmentAnswer level ls old)
-unfolding segmentCall segmentRows listRows
-segment-zero {level} {ls} {old} h = zero-exactly (segmentAnswer level ls old) (call-above _ _ (omega arith, (omega arith, (omega arith, (omega arith, ranges-numbered none (rangesOf ls)))))) (h .counted .number-is)
+unfolding segmentCall
+segment-zero {level} {ls} {old} h = zero-exactly (segmentAnswer level ls old) (call-above _ _ (segment-numbered (lengths (old .columns)) (record { level = level }) ls)) (h .counted .number-is)
 
 pub corners-zero : {k : ℕ} {ls : Lists} {old new : CornersLent} {r : ℕ} → AfterCorners k ls old new r → (r ≡ 0) ↔ Accepted (cornersAnswer k ls old)
 unfolding cornersCall cornerRows listRows
 corners-zero {k} {ls} {old} h =
     zero-exactly (cornersAnswer k ls old) (call-above _ _ (omega arith, (omega arith, (omega arith, Numbered-append (rangesRows none (rangesOf ls)) (countRows k ls) (ranges-numbered none (rangesOf ls)) (omega arith, tt))))) (h .counted .number-is)
+
+pub preview-zero : {level : ℤ} {ls : Lists} {r : Range} {old new : PreviewLent} {number : ℕ} → AfterPreview level ls r old new number → (number ≡ 0) ↔ Accepted (previewAnswer level ls r)
+preview-zero {level} {ls} {r} h =
+    let v : Service = record { level = level } in
+    zero-exactly (previewAnswer level ls r) (λ n e. call-above (previewRows v ls r) (effectOn v ls r) (segment-numbered [] v (longer ls r)) n (sym (preview-by-rows v ls r) ∙ e)) (h .number-is)
 
 pub report-zero : {file : List ℕ} {old new : ReportLent} {r : ℕ} → AfterReport file old new r → (r ≡ 0) ↔ Accepted (reportAnswer file old)
 unfolding reportCall

@@ -1,18 +1,24 @@
 // What other languages link: the calls on numbers and slices. Each gives 0, or the number of a refusal,
-// and puts its counts and records into lent numbers: it never reads them, and sets them on success alone.
+// and puts its counts, records and outlooks into lent numbers: it never reads them, and sets them on success alone.
 ghost use mathlib.Core.Path.{_≡_};
 ghost use Rattle.definitions.specs.Answers.{refusal};
+ghost use Rattle.definitions.specs.Results.{outlookNumbers};
 ghost use Rattle.drift.specs.Columns.{columns};
 ghost use Rattle.panel.specs.Promises.{addMeaning, headRangesMeaning};
-ghost use Rattle.humoraki.specs.Promises.{Counts, AfterRead, AfterWrite, AfterSegment, AfterCorners, AfterReport, AfterAdd, AfterHeadRanges};
+ghost use Rattle.values.specs.Meanings.{lineOf, outlookOf};
+ghost use Rattle.humoraki.specs.Promises.{Counts, AfterRead, AfterWrite, AfterSegment, AfterCorners, eight, AfterPreview, AfterReport, AfterAdd, AfterHeadRanges};
 use definitions::entries::Entry;
 use drift::CornersAnswer;
 use drift::SegmentAnswer;
 use panel::AddAnswer;
 use panel::HeadRangesAnswer;
+use preview::PreviewAnswer;
 use report_text::ReportAnswer;
 use trace::ReadAnswer;
 use trace::WriteAnswer;
+use values::Line;
+use values::Outlook;
+use values::rows::outlook_row;
 
 // The trace of a file, with its address, level and number of ranges.
 #[no_mangle]
@@ -136,6 +142,79 @@ pub extern "C" fn humoraki_corners(
             0
         }
         CornersAnswer::Refused(number) => number,
+    }
+}
+
+// A line into three lent numbers.
+fn tell_line(l: Line, into_p: &mut i64, into_q: &mut i64, into_d: &mut i64)
+    ensures { λ _. ⌜ lineOf l ≡ record { p = now («into_p» .exit); q = now («into_q» .exit); d = now («into_d» .exit) } ⌝ }
+{
+    let p = l.p;
+    let q = l.q;
+    let d = l.d;
+    *into_p = p;
+    *into_q = q;
+    *into_d = d;
+}
+
+// An outlook into eight lent numbers.
+fn tell_outlook(
+    o: Outlook,
+    slow_p: &mut i64,
+    slow_q: &mut i64,
+    slow_d: &mut i64,
+    fast_p: &mut i64,
+    fast_q: &mut i64,
+    fast_d: &mut i64,
+    some: &mut u64,
+    all: &mut u64,
+)
+    ensures { λ _. ⌜ eight (now («slow_p» .exit)) (now («slow_q» .exit)) (now («slow_d» .exit)) (now («fast_p» .exit)) (now («fast_q» .exit)) (now («fast_d» .exit)) (now (some .exit)) (now (all .exit)) ≡ outlookNumbers (outlookOf o) ⌝ }
+{
+    let row = outlook_row(o);
+    let slow = row.slow;
+    let fast = row.fast;
+    tell_line(slow, slow_p, slow_q, slow_d);
+    tell_line(fast, fast_p, fast_q, fast_d);
+    *some = row.some;
+    *all = row.all;
+}
+
+// The effect of a range before it is added: its kind, 0 where it joins the last segment and 1 where it begins one, and the outlook of the last segment then.
+#[no_mangle]
+pub extern "C" fn humoraki_preview(
+    level: i32,
+    times: &[u32],
+    lows: &[i32],
+    highs: &[i32],
+    time: u32,
+    low: i32,
+    high: i32,
+    kind: &mut u32,
+    slow_p: &mut i64,
+    slow_q: &mut i64,
+    slow_d: &mut i64,
+    fast_p: &mut i64,
+    fast_q: &mut i64,
+    fast_d: &mut i64,
+    some: &mut u64,
+    all: &mut u64,
+) -> u8
+    ensures { λ r. ⌜ AfterPreview level (record { times = now (times .entry); lows = now (lows .entry); highs = now (highs .entry) }) (record { time = time; low = low; high = high }) (record { kind = now (kind .entry); numbers = eight (now («slow_p» .entry)) (now («slow_q» .entry)) (now («slow_d» .entry)) (now («fast_p» .entry)) (now («fast_q» .entry)) (now («fast_d» .entry)) (now (some .entry)) (now (all .entry)) }) (record { kind = now (kind .exit); numbers = eight (now («slow_p» .exit)) (now («slow_q» .exit)) (now («slow_d» .exit)) (now («fast_p» .exit)) (now («fast_q» .exit)) (now («fast_d» .exit)) (now (some .exit)) (now (all .exit)) }) r ⌝ }
+{
+    let answer = preview::preview(level, times, lows, highs, time, low, high);
+    match answer {
+        PreviewAnswer::Joins(o) => {
+            *kind = 0;
+            tell_outlook(o, slow_p, slow_q, slow_d, fast_p, fast_q, fast_d, some, all);
+            0
+        }
+        PreviewAnswer::Begins(o) => {
+            *kind = 1;
+            tell_outlook(o, slow_p, slow_q, slow_d, fast_p, fast_q, fast_d, some, all);
+            0
+        }
+        PreviewAnswer::Refused(number) => number,
     }
 }
 

@@ -17,6 +17,7 @@
 --     in-cons-inv, in-append-inv, in-map-inv       where an entry of it comes from; so in-filter-inv, in-reverse-inv, in-flatten-inv; not-in-nil
 --     in-split                                     what stands before an entry and what after it
 --     last-cons, in-last                           the last of x ∷ xs, getLastD xs x, is an entry
+--     last-snoc                                    the last of xs ++ (y ∷ [])
 --     filter-true, filter-false, filter-passes     the first entry stays, or goes; what stays passes
 --     filter-all, filter-none, filter-append       nothing goes; nothing stays; of xs ++ ys
 --     filter-members, length-filter-not            the entries that pass and those that fail are all entries; length-filter: at most as many pass
@@ -287,6 +288,11 @@ module _ {A : Type 0} where
   unfolding getLastD
   last-cons x y [] = refl
   last-cons x y (z ∷ zs) = refl
+
+  pub last-snoc : (x y : A) (xs : List A) → getLastD (xs ++ (y ∷ [])) x ≡ y
+  unfolding getLastD
+  last-snoc x y [] = refl
+  last-snoc x y (z ∷ xs) = last-cons x z (xs ++ (y ∷ [])) ∙ last-snoc z y xs
 
   pub in-last : (x : A) (xs : List A) → In (getLastD xs x) (x ∷ xs)
   unfolding getLastD

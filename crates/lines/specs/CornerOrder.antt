@@ -22,7 +22,7 @@ use lib.IntN.{pos}
 use lib.Signed.{_<ℤ_, <ℤ-irrefl, ltZ}
 use Rattle.integers.specs.OrderLaws.{<ℤ-trans}
 use Rattle.integers.specs.Quotes.{quotes, ring! }
-use Rattle.integers.specs.Lists.{filter, All, nil, cons, In, here, there, SameMembers, same-members-trans, All-in, All-of, All-head, All-tail, All-imp₂, All-append, All-append-left, All-append-right, All-reverse, All-filter, All-map, in-append-left, in-append-right, in-reverse, in-reverse-inv, in-filter, in-filter-inv, filter-append, filter-none, last-cons}
+use Rattle.integers.specs.Lists.{filter, All, nil, cons, In, here, there, SameMembers, same-members-trans, All-in, All-of, All-head, All-tail, All-imp₂, All-append, All-append-left, All-append-right, All-reverse, All-filter, All-map, in-append-left, in-append-right, in-reverse, in-reverse-inv, in-filter, in-filter-inv, filter-append, filter-none, last-snoc}
 use Rattle.integers.specs.Sorting.{Rising, sorted, flip-order, rising-unique, rising-cons, rising-cons-cons, rising-head, rising-tail, rising-append, rising-append-left, rising-append-across, rising-filter, rising-nodup, rising-reverse-inv, sorted-rising, in-sorted, All-sorted}
 use Rattle.definitions.specs.Lines.{Line}
 use Rattle.definitions.specs.Corners.{reduced, before, side, cornerOrder}
@@ -55,11 +55,6 @@ side-fast k l = ring! (k .p ∷ k .q ∷ k .d ∷ l .p ∷ l .q ∷ l .d ∷ [])
 
 -- ---- `cornerOrder`, of a list whose last entry is written last
 
-last-append : (x l : Line) (xs : List Line) → getLastD (xs ++ (l ∷ [])) x ≡ l
-unfolding getLastD
-last-append x l [] = refl
-last-append x l (y ∷ ys) = last-cons x y (ys ++ (l ∷ [])) ∙ last-append y l ys
-
 abbrev isAbove : Line → Line → Line → Bool
 isAbove slow fast x = ltZ (pos 0) (side slow fast x)
 
@@ -87,7 +82,7 @@ module _ (slow fast : Line) where
   cornerOrder-arranged : (xs : List Line) → cornerOrder (slow ∷ xs ++ (fast ∷ [])) ≡ arranged slow fast xs
   unfolding cornerOrder getLastD
   cornerOrder-arranged [] = arranged-but-last []
-  cornerOrder-arranged (m ∷ xs) = ap (λ k. arranged slow k (m ∷ xs ++ (fast ∷ []))) (last-append m fast xs) ∙ arranged-but-last (m ∷ xs)
+  cornerOrder-arranged (m ∷ xs) = ap (λ k. arranged slow k (m ∷ xs ++ (fast ∷ []))) (last-snoc m fast xs) ∙ arranged-but-last (m ∷ xs)
 
 -- ---- a list in corner order
 
@@ -252,7 +247,7 @@ ends-of o s = subst (λ ls. Ends ls (slowOf o) (fastOf o)) (sym (bySlope-is o s)
   where
     by : {ks : List Line} (o : InCornerOrder ks) → Ends (bySlope o) (slowOf o) (fastOf o)
     by (single l) = record { rest = []; begins = refl; ends = refl }
-    by (around slow above fast below rises falls over under) = record { rest = middleOf above below ++ (fast ∷ []); begins = refl; ends = last-append slow fast (middleOf above below) }
+    by (around slow above fast below rises falls over under) = record { rest = middleOf above below ++ (fast ∷ []); begins = refl; ends = last-snoc slow fast (middleOf above below) }
 
 pub order-nodup : {ks : List Line} → InCornerOrder ks → All Proper ks → List·Nodup ks
 order-nodup (single l) p = rising-nodup line-order p (rising-cons before nil Pairwise·nil)

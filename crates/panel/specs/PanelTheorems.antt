@@ -50,7 +50,7 @@ use Rattle.definitions.specs.Panels.{Panel, Taken, totalHeld, onPanel, headRang
 use Rattle.definitions.specs.PanelCalls.{roomOf, panelRows, addRows, entriesAfter, putAt, added}
 use Rattle.trial_laws.specs.CallLaws.{along, bind-refused}
 use Rattle.trial_laws.specs.ShortLists.{long-split, long-join}
-use Rattle.trial_laws.specs.RangeLists.{listsOf}
+use Rattle.trial_laws.specs.RangeLists.{listsOf, firstEntries}
 use Rattle.trial_laws.specs.Accepted.{ProperRanges}
 use Rattle.panel_laws.specs.PanelRows.{ownRows}
 use Rattle.panel_laws.specs.Strangers.{stranger-not}
@@ -63,7 +63,7 @@ use Rattle.panel.specs.declared.HeadRangesAnswer.{HeadRangesAnswer}
 use Rattle.panel.specs.Promises.{addMeaning, headRangesMeaning, lengthsOf, AddPromise, HeadRangesPromise}
 use Rattle.panel.specs.Courses.{Course, begun, then-accepted, answer-add, answer-ranges, add-leaves, refused-leaves, held-course, on-course, panel-course, known-course, joined-course}
 use Rattle.panel.specs.RangesGiven as Given
-use Rattle.panel.specs.RangesGiven.{GivenRanges, firstEntries}
+use Rattle.panel.specs.RangesGiven.{GivenRanges}
 
 -- ---- any course of calls
 

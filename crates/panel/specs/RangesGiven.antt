@@ -1,6 +1,5 @@
 -- What Head ranges leaves in the three lists that it fills, after any course of calls.
 --
---     firstEntries              the first n entries of three lists
 --     GivenRanges               n ranges stand first in three lists: so many, and their times, lows and highs in order
 --     call-passes, call-passed  Head ranges is accepted on a panel where an entry has the address and the lists are long; where it is accepted the panel is one, and an entry has the address
 --     ranges-refused            a number that its rows give is the one that it gives
@@ -33,7 +32,7 @@ use Rattle.definitions.specs.PanelCalls.{roomOf, panelRows, headRangesCall}
 use Rattle.trial_laws.specs.Rows.{first-row-accepted}
 use Rattle.trial_laws.specs.CallLaws.{call-accepted, bind-refused}
 use Rattle.trial_laws.specs.ShortLists.{long-split, long-join}
-use Rattle.trial_laws.specs.RangeLists.{same-length, listsOf, ranges-of-lists, lists-alike}
+use Rattle.trial_laws.specs.RangeLists.{same-length, firstEntries, listsOf, ranges-of-lists, lists-alike}
 use Rattle.trial_laws.specs.Accepted.{ProperRanges, accepted-lists, segment-accepted}
 use Rattle.panel_laws.specs.AddLaws.{AllEmpty, nothing-on, IsPanel}
 use Rattle.panel_laws.specs.HeldLaws.{held-is, most-held}
@@ -41,9 +40,6 @@ use Rattle.panel.specs.declared.HeadRangesAnswer.{HeadRangesAnswer}
 use Rattle.panel.specs.Promises.{headRangesMeaning, lengthsOf, HeadRangesPromise}
 use Rattle.panel.specs.Refusals.{head-ranges-accepted}
 use Rattle.panel.specs.Courses.{Course, answer-ranges, on-course, proper-course}
-
-unfoldable pub firstEntries : ℕ → Lists → Lists
-firstEntries n ls = record { times = take n (ls .times); lows = take n (ls .lows); highs = take n (ls .highs) }
 
 pub record GivenRanges (rs : List Range) (ls : Lists) (n : ℕ) : Type 0 where
   pub count-is : n ≡ length rs

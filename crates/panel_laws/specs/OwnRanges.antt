@@ -7,26 +7,21 @@
 use Prim.Native.Nat.{ℕ}
 use mathlib.Core.Path.{_≡_, refl, sym, ap, _∙_, subst}
 use mathlib.Core.Bool.{Bool, true, false}
-use mathlib.Core.List.{List, [], _∷_, _++_, append-nil, append-assoc}
+use mathlib.Core.List.{List, [], _∷_, _++_, append-nil}
 use lib.Dec.{eqb}
 use borrow.Author.Tests.{eqb-true}
-use Rattle.definitions.specs.Answers.{Row, accepted, firstRow}
+use Rattle.definitions.specs.Answers.{accepted, firstRow}
 use Rattle.definitions.specs.Ranges.{Range}
-use Rattle.definitions.specs.Times.{Time, none, at}
+use Rattle.definitions.specs.Times.{none}
 use Rattle.definitions.specs.Trial.{rangeRows, rangesRows}
 use Rattle.definitions.specs.Panels.{Panel, onPanel, kept, headRanges, lastTime}
 use Rattle.definitions.specs.PanelCalls.{added}
 use Rattle.trial_laws.specs.Rows.{accepted-append}
 use Rattle.trial_laws.specs.Accepted.{ProperRanges, proper-accepted}
+use Rattle.trial_laws.specs.LongerLists.{rows-next}
 use Rattle.panel_laws.specs.OneMore.{head-append}
 use Rattle.panel_laws.specs.PanelRows.{tryAdd, accepts}
 use Rattle.panel_laws.specs.AddLaws.{on-added}
-
--- the rows of ranges, and then those of one more
-rows-next : (before : Time) (rs : List Range) (r : Range) → rangesRows before (rs ++ (r ∷ [])) ≡ rangesRows before rs ++ rangeRows (lastTime before rs) r
-unfolding rangesRows lastTime
-rows-next before [] r = append-nil (rangeRows before r)
-rows-next before (x ∷ rs) r = ap (λ (rows : List Row). rangeRows before x ++ rows) (rows-next (at (x .time)) rs r) ∙ sym (append-assoc (rangeRows before x) (rangesRows (at (x .time)) rs) (rangeRows (lastTime (at (x .time)) rs) r))
 
 -- proper ranges, and one more that passes its rows after the last of them
 proper-next : (rs : List Range) (r : Range) → ProperRanges rs → firstRow (rangeRows (lastTime none rs) r) ≡ accepted tt → ProperRanges (rs ++ (r ∷ []))

@@ -8,7 +8,7 @@
 --     cut-not-empty                    no run is empty
 --     cut-append                       a list with more behind it: its last run goes on with what follows, and the earlier ones stay
 --     cut-joins, cut-begins            one more element: the last run grows by it if the test passes, and else the element begins a run
---     cut-last                         a list that is not empty has a last run
+--     cut-last, cut-ends               a list that is not empty has a last run, and ends with it
 --     lastRun-joins, lastRun-begins    the last run after one more element
 --     Running, running                 the last run of a front of the list is a part of a run of the whole list, and the runs before it are the same
 --     cut-resume                       cutting goes on from the last run of the first k elements
@@ -174,6 +174,9 @@ module _ {A : Type 0} where
         let f = first-run (x ∷ []) xs in
         let runs-are = cut-cons x xs ∙ f .is in
         subst (λ runs. runs ≡ dropLast runs ++ (lastRun runs ∷ [])) (sym runs-are) (sym (lastRun-split (x ∷ f .gets) (cut good (f .rest))))
+
+    pub cut-ends : (xs : List A) → 0 < length xs → flatten (dropLast (cut good xs)) ++ lastRun (cut good xs) ≡ xs
+    cut-ends xs h = sym (flatten-snoc (dropLast (cut good xs)) (lastRun (cut good xs))) ∙ ap flatten (sym (cut-last xs h)) ∙ cut-whole xs
 
     lastRun-one : (x : A) → lastRun (cut good (x ∷ [])) ≡ x ∷ []
     unfolding lastRun

@@ -6,3 +6,4 @@ pub mod Limited
 pub mod OrderedRanges
 pub mod RunTimes
 pub mod Segments
+pub mod Effects

@@ -7,3 +7,4 @@ pub mod Inside
 pub mod Accepted
 pub mod ByPlace
 pub mod ShortLists
+pub mod LongerLists

@@ -3,6 +3,7 @@
 --     NoneHolds rows                   no row holds
 --     FirstAt n rows                   a row with the number n holds, and no earlier row does
 --     Numbered rows                    no row has the number 0
+--     Only P rows                      every row has a number with P; only-first: so has the number that is given
 --     row-holds, row-passes            the answer where the first row holds, and where it does not
 --     first-row-accepted               accepted exactly where no row holds
 --     first-row-exact                  refused with n exactly where the first row that holds has the number n
@@ -17,7 +18,7 @@
 --
 -- Example: with e : firstRow (4 if a ∷ 5 if b ∷ []) ≡ accepted tt, `first-row-accepted _ .0 e` is (a ≡ false) × ((b ≡ false) × Unit).
 -- Assumes nothing.
-use mathlib.Core.Path.{_≡_, refl, sym, ap, _∙_}
+use mathlib.Core.Path.{_≡_, refl, sym, ap, _∙_, subst}
 use mathlib.Core.Logic.{_↔_}
 use mathlib.Core.Bool.{Bool, true, false}
 use mathlib.Core.List.{List, [], _∷_, _++_}
@@ -85,6 +86,16 @@ after-none n ((m if b) ∷ earlier) later h = rw (h .0) (after-none n earlier la
 
 pub first-row-exact : (n : ℕ) (rows : List Row) → (firstRow rows ≡ refused n) ↔ FirstAt n rows
 first-row-exact n rows = (first-at n rows, λ f. ap firstRow (f .is) ∙ after-none n (f .earlier) (f .later) (f .none-earlier))
+
+abbrev pub Only : (ℕ → Type 0) → List Row → Type 0
+Only P [] = Unit
+Only P ((n if b) ∷ rows) = P n × Only P rows
+
+pub only-first : (P : ℕ → Type 0) (rows : List Row) → Only P rows → {n : ℕ} → firstRow rows ≡ refused n → P n
+unfolding firstRow
+only-first P [] h e = refused-not-accepted (sym e)
+only-first P ((m if true) ∷ rows) h {n} e = let z : m ≡ n = cc in subst P z (h .0)
+only-first P ((m if false) ∷ rows) h e = only-first P rows (h .1) e
 
 -- ---- rows and then more
 

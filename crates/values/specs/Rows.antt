@@ -1,9 +1,9 @@
--- Rows: the eleven numbers of a segment in code, and the segment that eleven numbers tell.
+-- Rows: the eleven numbers of a segment in code, the eight of an outlook, and the segment that eleven numbers tell.
 --
---     rowOf          the numbers of a row of the code
---     timeFrom       the time of a number: a number above every time stands for none
---     outlookFrom    the outlook of a row: one range is open, and more have two lines with two times
---     segmentFrom    the segment of a row
+--     outlookRowOf, rowOf              the numbers of an outlook and of a segment in the code
+--     timeFrom                         the time of a number: a number above every time stands for none
+--     outlookFrom                      the outlook of a row: one range is open, and more have two lines with two times
+--     segmentFrom                      the segment of a row
 --
 -- `numbersOf` of the definitions goes the other way; that nothing is lost is in `RowLaws`.
 -- Assumes nothing.
@@ -13,8 +13,13 @@ use lib.Dec.{ltb}
 use Rattle.definitions.specs.Spans.{noTime}
 use Rattle.definitions.specs.Times.{Time, none, at}
 use Rattle.definitions.specs.Outlook.{Outlook, open-strip, lines}
-use Rattle.definitions.specs.Results.{Segment, Numbers}
+use Rattle.definitions.specs.Results.{Segment, Numbers, OutlookNumbers}
 use Rattle.values.specs.declared.rows.Row.{Row}
+use Rattle.values.specs.declared.rows.OutlookRow.{OutlookRow}
+use Rattle.values.specs.Meanings.{lineOf}
+
+abbrev pub outlookRowOf : OutlookRow → OutlookNumbers
+outlookRowOf r = record { slow = lineOf (r .slow); fast = lineOf (r .fast); some = r .some; all = r .all }
 
 abbrev pub rowOf : Row → Numbers
 rowOf r =

@@ -2,7 +2,7 @@
 pub mod lowest_terms; // lowest_terms.rt: a line in lowest terms
 mod numbers; // numbers.rt: the greatest common divisor, and the quotient rounded up
 pub mod reaching; // reaching.rt: the side of a level, when a line reaches it, and the outlook of two lines
-pub mod rows; // rows.rt: a segment as its row of numbers, and back
+pub mod rows; // rows.rt: an outlook and a segment as rows of numbers, and a segment back
 pub mod storing; // storing.rt: a line into three lent slices
 
 // The line whose value at t is (p·t + q)/d, with d above 0.

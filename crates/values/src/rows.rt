@@ -1,8 +1,8 @@
-// A segment as its row of numbers, one for each slice that Segment fills, and back. Nothing is lost: specs/RowLaws.antt.
+// An outlook and a segment as rows of numbers, one for each slice that Segment fills, and a segment back. Nothing is lost: specs/RowLaws.antt.
 ghost use mathlib.Core.Path.{_≡_};
-ghost use Rattle.definitions.specs.Results.{timeNumber, numbersOf};
+ghost use Rattle.definitions.specs.Results.{timeNumber, numbersOf, outlookNumbers};
 ghost use Rattle.values.specs.Meanings.{timeOf, outlookOf, segmentOf};
-ghost use Rattle.values.specs.Rows.{rowOf, timeFrom, outlookFrom, segmentFrom};
+ghost use Rattle.values.specs.Rows.{rowOf, outlookRowOf, timeFrom, outlookFrom, segmentFrom};
 use crate::Line;
 use crate::Outlook;
 use crate::Segment;
@@ -20,6 +20,14 @@ pub struct Row {
     pub all: u64,
 }
 
+// The numbers of an outlook, the last eight of a row.
+pub struct OutlookRow {
+    pub slow: Line,
+    pub fast: Line,
+    pub some: u64,
+    pub all: u64,
+}
+
 fn time_number(t: Time) -> u64
     ensures { λ r. ⌜ r ≡ timeNumber (timeOf t) ⌝ }
 {
@@ -29,18 +37,14 @@ fn time_number(t: Time) -> u64
     }
 }
 
-// An open segment has 0 in the last eight.
-pub fn row_of(s: Segment) -> Row
-    ensures { λ r. ⌜ rowOf r ≡ numbersOf (segmentOf s) ⌝ }
+// The numbers of an outlook; an open one has 0 in each.
+pub fn outlook_row(o: Outlook) -> OutlookRow
+    ensures { λ r. ⌜ outlookRowOf r ≡ outlookNumbers (outlookOf o) ⌝ }
 {
-    let outlook = s.outlook;
-    match outlook {
+    match o {
         Outlook::Open => {
             let zeros = Line { p: 0, q: 0, d: 0 };
-            Row {
-                first_time: s.first_time,
-                last_time: s.last_time,
-                count: s.count,
+            OutlookRow {
                 slow: zeros,
                 fast: zeros,
                 some: 0,
@@ -52,15 +56,31 @@ pub fn row_of(s: Segment) -> Row
             fast,
             some,
             all,
-        } => Row {
-            first_time: s.first_time,
-            last_time: s.last_time,
-            count: s.count,
+        } => OutlookRow {
             slow: slow,
             fast: fast,
             some: time_number(some),
             all: time_number(all),
         },
+    }
+}
+
+// The last eight are those of the segment's outlook.
+pub fn row_of(s: Segment) -> Row
+    ensures { λ r. ⌜ rowOf r ≡ numbersOf (segmentOf s) ⌝ }
+{
+    let outlook = s.outlook;
+    let o = outlook_row(outlook);
+    let slow = o.slow;
+    let fast = o.fast;
+    Row {
+        first_time: s.first_time,
+        last_time: s.last_time,
+        count: s.count,
+        slow,
+        fast,
+        some: o.some,
+        all: o.all,
     }
 }
 

@@ -1,44 +1,35 @@
--- `values::rows::row_of` meets its contract: the case of the outlook is known in each arm. Assumes nothing.
-use mathlib.Core.Path.{sym, ap}
+-- `values::rows::row_of` meets its contract: the first three numbers are handed on, and `outlook_row` tells the rest. Assumes nothing.
+use mathlib.Core.Path.{ap}
 use borrow.Author.Needs.{needs}
-use Rattle.definitions.specs.Results.{slowLine, fastLine, someNumber, allNumber, numbersOf}
-use Rattle.values.specs.Meanings.{outlookOf, segmentOf}
+use Rattle.definitions.specs.Results.{Numbers, numbersOf, OutlookNumbers}
+use Rattle.values.specs.Meanings.{segmentOf}
+use Rattle.values.specs.declared.Segment.{Segment}
 use Rattle.values.proofs.rows.row_of.Statement.{statement}
 use Rattle.values.proofs.rows.row_of.Tie as tie
 
-enum-told : tie.Need-enum-told
-enum-told c = search needs
+outlook-row-requires : tie.Need-outlook-row-requires
+outlook-row-requires c κs = search needs
 
-enum-known-outlook : tie.Need-enum-known-outlook
-enum-known-outlook c = search needs
-
-time-number-requires : tie.Need-time-number-requires
-time-number-requires c κs = tt
-
-time-number-requires-2 : tie.Need-time-number-requires-2
-time-number-requires-2 c κs = tt
+-- the row of a segment whose outlook has these numbers
+abbrev with : Segment → OutlookNumbers → Numbers
+with s o =
+    record {
+      firstTime = s .«first_time»;
+      lastTime = s .«last_time»;
+      count = s .count;
+      slowP = o .slow .p;
+      slowQ = o .slow .q;
+      slowD = o .slow .d;
+      fastP = o .fast .p;
+      fastQ = o .fast .q;
+      fastD = o .fast .d;
+      some = o .some;
+      all = o .all;
+    }
 
 returns : tie.Need-returns
-unfolding numbersOf slowLine fastLine someNumber allNumber segmentOf outlookOf
-returns c =
-    let s = c .before .before .args .s in
-    sym (ap (λ o. numbersOf (record { firstTime = s .«first_time»; lastTime = s .«last_time»; count = s .count; outlook = outlookOf o })) (c .enum-told .given .1))
-
-returns-2 : tie.Need-returns-2
-unfolding numbersOf slowLine fastLine someNumber allNumber segmentOf outlookOf
-returns-2 c =
-    let s = c .before .before .before .before .before .args .s in
-    let known = c .before .before .before .outlook .given in
-    rw (c .before .time-number .ensures, c .time-number2 .ensures)
-    (sym (ap (λ o. numbersOf (record { firstTime = s .«first_time»; lastTime = s .«last_time»; count = s .count; outlook = outlookOf o })) (known .1)))
+unfolding numbersOf segmentOf
+returns c = ap (with (c .before .before .before .args .s)) (c .before .before .outlook-row .ensures)
 
 pub row-of-spec : {M : Type 1} → statement M
-row-of-spec =
-    tie.close
-    (tie.spec
-    enum-told
-    enum-known-outlook
-    time-number-requires
-    time-number-requires-2
-    returns
-    returns-2)
+row-of-spec = tie.close (tie.spec outlook-row-requires returns)

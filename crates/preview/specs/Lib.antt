@@ -1,0 +1,9 @@
+pub mod PreviewPromise
+pub mod LongerRuns
+pub mod FoundEffects
+pub mod Refusals
+pub mod FirstRanges
+pub mod GivenEffects
+pub mod Agreement
+pub mod Courses
+pub mod PreviewTheorems
