@@ -1,6 +1,6 @@
 /*
- * Humoraki: the segments of a smoke detector's trace, and when the detector must be serviced; the ranges of many
- * detectors on one panel.
+ * Humoraki: the segments of a smoke detector's trace, when the detector must be serviced, and what one range more would
+ * do to both; the ranges of many detectors on one panel.
  *
  * Link with libhumoraki.a, which `rt staticlib humoraki` writes to target/staticlib/.
  *
@@ -54,8 +54,12 @@ extern "C" {
 /* The largest number of entries, one for each head, that a panel may have. */
 #define HUMORAKI_MOST_HEADS 64
 
-/* Stands for a time that there is not, in somes and alls. */
+/* Stands for a time that there is not, in somes and alls, and in some and all of humoraki_preview. */
 #define HUMORAKI_NONE UINT64_C(4294967296)
+
+/* What a range would do, in kind of humoraki_preview: join the last segment, or begin one. */
+#define HUMORAKI_JOINS 0
+#define HUMORAKI_BEGINS 1
 
 /*
  * The columns of a segment's row, as parameters in their order: slices, each filled with one entry for each segment.
@@ -148,6 +152,38 @@ uint8_t humoraki_corners(size_t k,
                          int64_t *qs, size_t qs_len,
                          int64_t *ds, size_t ds_len,
                          size_t *count);
+
+/*
+ * The effect of a range before it is added: whether it would join the last segment or begin one, and the outlook of the
+ * last segment then. That is what humoraki_segment gives on a copy of the lists with the range behind it.
+ *
+ * level                   the service level, -268,435,456 to 268,435,456
+ * times, lows, highs      the ranges so far, in lists of one length, at most 4,095; read and not changed
+ * time                    that of the range, above that of the last range so far
+ * low, high               its low and high, -268,435,456 to 268,435,456, low at most high
+ * kind                    set to HUMORAKI_JOINS, which is 0, or to HUMORAKI_BEGINS, which is 1, where the copy has one
+ *                         segment more than the lists
+ * slow_p, slow_q, slow_d  set to the slow line of the last segment: the value at t is (p * t + q) / d
+ * fast_p, fast_q, fast_d  set to its fast line
+ * some                    set to the first time, from that of the range on, at which some fitting line is at or above
+ *                         the level, or to HUMORAKI_NONE
+ * all                     set to the first at which every fitting line is, or to HUMORAKI_NONE
+ *
+ * A segment of one range is open: the eight numbers after kind are set to 0. That is so exactly if the range begins it,
+ * as the first range of all does, where the lists are empty. The d of a line is above 0.
+ *
+ * Refusals: 10, 7, level 4, then range by range 4, 5, 6, the new range last. A full list, of 4,096 ranges, gets 7
+ * whatever level and range are. No slice is filled, so there is no 8.
+ */
+uint8_t humoraki_preview(int32_t level,
+                         const uint32_t *times, size_t times_len,
+                         const int32_t *lows, size_t lows_len,
+                         const int32_t *highs, size_t highs_len,
+                         uint32_t time, int32_t low, int32_t high,
+                         uint32_t *kind,
+                         int64_t *slow_p, int64_t *slow_q, int64_t *slow_d,
+                         int64_t *fast_p, int64_t *fast_q, int64_t *fast_d,
+                         uint64_t *some, uint64_t *all);
 
 /*
  * The report of a trace file: a line for the trace and one for each segment, or `refused` and the number.

@@ -1,7 +1,8 @@
 /*
  * Tries from C what humoraki.h says of memory that is lent: a pointer beside a length of 0 may be null, and what a
  * function fills, sets or changes is written on success and left alone else. Then writes and reads back the addresses
- * at the ends of their span, hands in numbers past it, and fills a panel. Prints what is not so, and then ends with 1.
+ * at the ends of their span, hands in numbers past it, previews ranges, and fills a panel. Prints what is not so, and
+ * then ends with 1.
  */
 #include "humoraki.h"
 
@@ -24,6 +25,9 @@ static struct {
     uint32_t address;
     int32_t level;
     size_t ranges, count;
+    uint32_t kind;
+    int64_t slow_line[3], fast_line[3];
+    uint64_t some, all;
 } lent;
 
 static int failures;
@@ -65,6 +69,20 @@ static uint8_t call_corners(int missing) {
     return humoraki_corners(1, EMPTY, EMPTY, EMPTY, SLICE(0, ps), SLICE(1, qs), SLICE(2, ds), &lent.count);
 }
 
+/* What Preview sets. */
+#define EFFECT \
+    &lent.kind, &lent.slow_line[0], &lent.slow_line[1], &lent.slow_line[2], \
+    &lent.fast_line[0], &lent.fast_line[1], &lent.fast_line[2], &lent.some, &lent.all
+
+/* Preview fills no slice, so none can be missing; its kind is told as the count. */
+static uint8_t call_preview(int missing) {
+    (void)missing;
+    uint8_t number = humoraki_preview(20, EMPTY, EMPTY, EMPTY, 60, 13, 16, EFFECT);
+    if (number == 0)
+        lent.count = lent.kind;
+    return number;
+}
+
 static uint8_t call_report(int missing) {
     return humoraki_report(EMPTY, SLICE(0, text), &lent.count);
 }
@@ -94,6 +112,7 @@ static const struct {
     {"write", call_write, 1, 0, 11},
     {"segment", call_segment, 11, 0, 0},
     {"corners", call_corners, 3, 9, 0},
+    {"preview", call_preview, 0, 0, HUMORAKI_BEGINS},
     {"report", call_report, 1, 0, 10},
     {"add", call_add, 4, 14, 0},
     {"head_ranges", call_head_ranges, 7, 14, 0},
@@ -139,6 +158,34 @@ static void try_addresses(void) {
                                &lent.address, &lent.level, &lent.ranges);
         expect(number == 0 && lent.address == address, "read", "an address does not come back");
     }
+}
+
+/* The effect of a range behind those of the first sample: the number, and on success the kind and the outlook. */
+static void try_preview(int32_t level, uint32_t time, int32_t low, int32_t high, uint8_t number, uint32_t kind,
+                        const int64_t outlook[8]) {
+    static const uint32_t times[] = {10, 20, 30, 40, 50};
+    static const int32_t lows[] = {0, 4, 10, 9, 9}, highs[] = {4, 8, 14, 11, 12};
+    mark();
+    expect(humoraki_preview(level, times, 5, lows, 5, highs, 5, time, low, high, EFFECT) == number, "preview",
+           "another number");
+    if (number != 0) {
+        expect(kept(), "preview", "something is changed by a refusal");
+        return;
+    }
+    expect(lent.kind == kind, "preview", "another kind");
+    expect(memcmp(lent.slow_line, outlook, sizeof lent.slow_line) == 0, "preview", "another slow line");
+    expect(memcmp(lent.fast_line, outlook + 3, sizeof lent.fast_line) == 0, "preview", "another fast line");
+    expect(lent.some == (uint64_t)outlook[6] && lent.all == (uint64_t)outlook[7], "preview", "another time");
+}
+
+static void try_previews(void) {
+    static const int64_t open[8] = {0}, joined[8] = {1, 70, 10, 3, -30, 10, 77, 130};
+    try_preview(20, 60, 13, 16, 0, HUMORAKI_JOINS, joined);
+    try_preview(20, 60, 16, 18, 0, HUMORAKI_BEGINS, open);
+    try_preview(20, 50, 13, 16, 6, 0, open);
+    try_preview(20, 50, 17, 16, 5, 0, open);
+    try_preview(20, 50, INT32_MIN, 16, 4, 0, open);
+    try_preview(INT32_MAX, 60, 13, 16, 4, 0, open);
 }
 
 /* Adds a range to the panel; a refusal must leave all that is lent as it was. */
@@ -205,6 +252,7 @@ int main(void) {
             expect(kept(), name, "something is changed by a refusal");
     }
     try_addresses();
+    try_previews();
     try_panel();
     return failures == 0 ? 0 : 1;
 }

@@ -22,7 +22,7 @@ const ROUNDS: usize = 20;
 
 fn main() {
     let mut groups = Vec::new();
-    for call in [Call::Segment, Call::Corners] {
+    for call in [Call::Segment, Call::Corners, Call::Preview] {
         for shape in [Shape::LongSegment, Shape::ShortSegments, Shape::LargeChains] {
             groups.push(Group::new(call, shape));
         }

@@ -16,8 +16,10 @@ both are compiled at -O3 for any x86-64, and gave the same for every trace befor
 They take turns, and a time is the least of many calls. At each length the traces have 16,384 ranges in all. \
 The slices to be filled are allocated once and not cleared between calls; \
 the two chains, 4,096 entries each, are on the stack of both programs, and each call sets them to 0. \
-Corners is asked after all ranges. Segments and corners are counted at 4,096 ranges. \
-Growth is the time for each range at 4,096 ranges over that at 1,024: 1 is linear.";
+Corners is asked after all ranges, and Preview for the last range behind all others. \
+Segments and corners are counted at 4,096 ranges. \
+Growth is the time for each range at 4,096 ranges over that at 1,024: 1 is linear. \
+To Corners is the proved time of Preview over that of Corners.";
 
 /// How the time for each range grows from 1,024 to 4,096 ranges: 1 where the time is linear.
 fn growth(numbers: &[f64]) -> f64 {
@@ -47,8 +49,9 @@ fn print_row(heads: [&str; 3], numbers: &[f64], digits: usize, last: &str) {
 
 fn print_group(group: &Group) {
     let (call, counted) = match group.call {
-        Call::Segment => ("Segment", "segments"),
-        Call::Corners => ("Corners", "corners"),
+        Call::Segment => ("Segment", format!("segments: {}", with_comma(group.count))),
+        Call::Corners => ("Corners", format!("corners: {}", with_comma(group.count))),
+        Call::Preview => ("Preview", String::new()),
     };
     let proved = group.column(|t| t.proved);
     let unproved = group.column(|t| t.unproved);
@@ -56,9 +59,17 @@ fn print_group(group: &Group) {
     let grown = |numbers: &[f64]| format!("{:.2}", growth(numbers));
     let heads = [call, shape_name(group.shape), "proved, ns"];
     print_row(heads, &proved, 1, &grown(&proved));
-    let heads = ["", &format!("{counted}: {}", with_comma(group.count)), "unproved, ns"];
-    print_row(heads, &unproved, 1, &grown(&unproved));
+    print_row(["", &counted, "unproved, ns"], &unproved, 1, &grown(&unproved));
     print_row(["", "", "ratio"], &ratio, 2, "");
+}
+
+/// The proved times of Preview over those of Corners on the same traces.
+fn print_to_corners(preview: &Group, groups: &[Group]) {
+    let corners = groups.iter().find(|group| matches!(group.call, Call::Corners) && group.shape == preview.shape);
+    let corners = corners.expect("Corners on traces of this shape").column(|t| t.proved);
+    let times = preview.column(|t| t.proved);
+    let ratio: Vec<f64> = times.iter().zip(&corners).map(|(one, other)| one / other).collect();
+    print_row(["", "", "to Corners"], &ratio, 2, "");
 }
 
 fn largest(numbers: impl Iterator<Item = f64>) -> f64 {
@@ -68,7 +79,12 @@ fn largest(numbers: impl Iterator<Item = f64>) -> f64 {
 pub fn print(groups: &[Group]) {
     println!("| call | trace | each range | 256 | 512 | 1,024 | 2,048 | 4,096 | growth |");
     println!("|---|---|---|--:|--:|--:|--:|--:|--:|");
-    groups.iter().for_each(print_group);
+    for group in groups {
+        print_group(group);
+        if matches!(group.call, Call::Preview) {
+            print_to_corners(group, groups);
+        }
+    }
     let ratio = largest(groups.iter().flat_map(|g| g.column(Times::ratio)));
     let grown = largest(groups.iter().map(|g| growth(&g.column(|t| t.proved))));
     println!();

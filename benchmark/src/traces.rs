@@ -6,7 +6,7 @@ use humoraki::Trace;
 /// Large, so that the times have as many digits in a short trace as in a long one.
 const FIRST_TIME: i64 = 10_000_000;
 
-#[derive(Clone, Copy)]
+#[derive(Clone, Copy, PartialEq)]
 pub enum Shape {
     /// Readings of a rising line: one segment, of whose fit few readings cut off anything.
     LongSegment,

@@ -3,12 +3,28 @@
 
 use crate::file;
 use crate::line::Line;
+use crate::outlook::Outlook;
 use crate::panel::Panel;
 use crate::report;
-use crate::segments::{Fitter, Segment, segments, stages};
+use crate::segments::{Fitter, Segment, Stage, segments, stages};
 use crate::trace::{Lists, Range, Trace};
 use crate::trial;
 use std::borrow::Borrow;
+
+/// What a range does: whether it begins a segment or joins the last one, and the outlook of the last one then.
+#[derive(Clone, PartialEq, Eq, Debug)]
+pub struct Effect {
+    pub begins: bool,
+    pub outlook: Outlook,
+}
+
+impl Effect {
+    /// The effect of the last range of a stage.
+    pub fn at(stage: &Stage, ranges: &[Range], level: i32) -> Effect {
+        let segment = stage.segment(ranges, level);
+        Effect { begins: segment.count == 1, outlook: segment.outlook }
+    }
+}
 
 pub fn read(file: &[u8]) -> Result<Trace, u8> {
     file::read(file)
@@ -42,6 +58,14 @@ pub fn prefix(k: usize, lists: &Lists) -> Result<Vec<Range>, u8> {
     trial::prefix(k, ranges.len())?;
     ranges.truncate(k);
     Ok(ranges)
+}
+
+/// The range is added to a copy of the lists, and both are segmented.
+pub fn preview(level: i32, lists: &Lists, range: &Range, fitter: Fitter) -> Result<Effect, u8> {
+    let after = segment(level, &lists.with(range), fitter)?;
+    let before = segment(level, lists, fitter)?;
+    let last = after.last().expect("a segment with the range");
+    Ok(Effect { begins: after.len() == before.len() + 1, outlook: last.outlook.clone() })
 }
 
 pub fn report(file: &[u8], fitter: Fitter) -> String {

@@ -1,10 +1,11 @@
 //! Where the calls are compared: the memory that is lent over and over, the random numbers and the tally.
 
 use crate::alteration::Alteration;
-use crate::answers::{self, borrowed};
+use crate::answers::{self, Effect, borrowed};
 use crate::calls::add::AddCall;
 use crate::calls::corners::CornersCall;
 use crate::calls::head_ranges::HeadRangesCall;
+use crate::calls::preview::PreviewCall;
 use crate::calls::read::ReadCall;
 use crate::calls::report::ReportCall;
 use crate::calls::segment::SegmentCall;
@@ -28,6 +29,7 @@ pub struct Desk {
     write: WriteCall,
     segment: SegmentCall,
     corners: CornersCall,
+    preview: PreviewCall,
     report: ReportCall,
     add: AddCall,
     head_ranges: HeadRangesCall,
@@ -43,6 +45,7 @@ impl Desk {
             write: WriteCall::new(),
             segment: SegmentCall::new(),
             corners: CornersCall::new(),
+            preview: PreviewCall::new(),
             report: ReportCall::new(),
             add: AddCall::new(),
             head_ranges: HeadRangesCall::new(),
@@ -74,6 +77,17 @@ impl Desk {
         let returned = self.corners.call((k, lists), expected, room, &mut self.random);
         let judged = judged(returned, &mut self.alteration, &mut self.random, &mut self.tally);
         judged.map_err(|wrong| wrong.in_call(Told::on_lists(format!("Corners, k {k}, {room}"), lists, 1, 0)))
+    }
+
+    pub fn preview(&mut self, handed: (i32, &Lists, &Range), expected: Result<&Effect, u8>) -> Outcome {
+        let returned = self.preview.call(handed, expected, &mut self.random);
+        let judged = judged(returned, &mut self.alteration, &mut self.random, &mut self.tally);
+        let begins = expected.map(|effect| effect.begins);
+        self.tally.add("previews: the range joins", (begins == Ok(false)) as usize);
+        self.tally.add("previews: the range begins a segment", (begins == Ok(true)) as usize);
+        let (level, lists, Range { time, low, high }) = handed;
+        let call = || format!("Preview, level {level}, time {time}, low {low}, high {high}");
+        judged.map_err(|wrong| wrong.in_call(Told::on_lists(call(), lists, 1, level)))
     }
 
     pub fn report(&mut self, file: &[u8], expected: &str, room: &Room) -> Outcome {
@@ -124,6 +138,7 @@ impl Desk {
             (Call::Write, self.write.lent()),
             (Call::Segment, self.segment.lent()),
             (Call::Corners, self.corners.lent()),
+            (Call::Preview, self.preview.lent()),
             (Call::Report, self.report.lent()),
             (Call::Add, self.add.lent()),
             (Call::HeadRanges, self.head_ranges.lent()),

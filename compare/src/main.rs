@@ -87,11 +87,13 @@ fn compare(seed: u64, traces: usize) -> ExitCode {
 
 fn all_rounds(desk: &mut Desk, traces: usize) -> Outcome {
     rounds::samples::compare(desk)?;
+    rounds::preview_cases::compare(desk)?;
     rounds::small_traces::compare(desk, traces)?;
     rounds::addresses::compare(desk)?;
     rounds::damaged_files::compare(desk, traces)?;
     rounds::field_faults::compare(desk)?;
     rounds::list_faults::compare(desk)?;
+    rounds::preview_faults::compare(desk)?;
     rounds::short_slices::compare(desk)?;
     rounds::largest::compare(desk)?;
     rounds::long_traces::compare(desk)?;

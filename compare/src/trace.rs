@@ -41,6 +41,15 @@ impl Lists {
         self.times.len() != self.lows.len() || self.lows.len() != self.highs.len()
     }
 
+    /// A copy with a range behind it: each list with one entry more.
+    pub fn with(&self, range: &Range) -> Lists {
+        let mut longer = self.clone();
+        longer.times.push(range.time);
+        longer.lows.push(range.low);
+        longer.highs.push(range.high);
+        longer
+    }
+
     /// The ranges that all three lists reach.
     pub fn ranges(&self) -> Vec<Range> {
         let values = self.lows.iter().zip(&self.highs);

@@ -47,6 +47,18 @@ macro_rules! declare {
                 count: *mut usize,
             ) -> u8;
 
+            pub fn humoraki_preview(
+                level: i32,
+                times: *const u32, times_len: usize,
+                lows: *const i32, lows_len: usize,
+                highs: *const i32, highs_len: usize,
+                time: u32, low: i32, high: i32,
+                kind: *mut u32,
+                slow_p: *mut i64, slow_q: *mut i64, slow_d: *mut i64,
+                fast_p: *mut i64, fast_q: *mut i64, fast_d: *mut i64,
+                some: *mut u64, all: *mut u64,
+            ) -> u8;
+
             pub fn humoraki_report(
                 file: *const u8, file_len: usize,
                 text: *mut u8, text_len: usize,

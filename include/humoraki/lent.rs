@@ -5,8 +5,8 @@
 //! A panel is both read and changed, by `add`.
 
 use super::declarations::{
-    humoraki_add, humoraki_corners, humoraki_head_ranges, humoraki_read, humoraki_report, humoraki_segment,
-    humoraki_write,
+    humoraki_add, humoraki_corners, humoraki_head_ranges, humoraki_preview, humoraki_read, humoraki_report,
+    humoraki_segment, humoraki_write,
 };
 use super::{Entry, SEGMENT_ROOM};
 
@@ -23,6 +23,20 @@ pub struct Lines<'a> {
     pub ps: &'a mut [i64],
     pub qs: &'a mut [i64],
     pub ds: &'a mut [i64],
+}
+
+/// The numbers of an effect, to be set: its kind, `JOINS` or `BEGINS`, and the lines and times of an outlook, with 0 in
+/// all eight where it is open.
+pub struct EffectMut<'a> {
+    pub kind: &'a mut u32,
+    pub slow_p: &'a mut i64,
+    pub slow_q: &'a mut i64,
+    pub slow_d: &'a mut i64,
+    pub fast_p: &'a mut i64,
+    pub fast_q: &'a mut i64,
+    pub fast_d: &'a mut i64,
+    pub some: &'a mut u64,
+    pub all: &'a mut u64,
 }
 
 /// A panel to be read: one entry for each head, and the four lists with the ranges of all of them.
@@ -48,7 +62,7 @@ pub struct PanelMut<'a> {
 }
 
 /// Calls a function of the library. Every one of them takes first values, then slices to read, then a value that tells
-/// what is sought in them, then slices to fill or to change, and last the numbers to set or further values; a slice
+/// what is sought in them, then slices to fill or to change, and last further values and the numbers to set; a slice
 /// goes as its pointer and its length.
 macro_rules! call {
     ($function:ident(
@@ -92,6 +106,15 @@ pub fn write(address: u32, level: i32, ranges: Ranges, file: &mut [u8], count: &
 /// count: 0 where that segment has one range so far.
 pub fn corners(k: usize, ranges: Ranges, corners: Lines, count: &mut usize) -> Result<(), u8> {
     call!(humoraki_corners(k; ranges.times, ranges.lows, ranges.highs; ; corners.ps, corners.qs, corners.ds; count))
+}
+
+/// Sets the numbers to the effect that a range would have behind some ranges, at most 4,095; none of these is changed.
+pub fn preview(level: i32, ranges: Ranges, time: u32, low: i32, high: i32, effect: EffectMut) -> Result<(), u8> {
+    let EffectMut { kind, slow_p, slow_q, slow_d, fast_p, fast_q, fast_d, some, all } = effect;
+    call!(humoraki_preview(
+        level; ranges.times, ranges.lows, ranges.highs; ; ;
+        time, low, high, kind, slow_p, slow_q, slow_d, fast_p, fast_q, fast_d, some, all
+    ))
 }
 
 /// Fills a slice with the text of a file's report, and sets the count of its bytes.

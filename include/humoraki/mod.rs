@@ -20,7 +20,7 @@ pub mod panel;
 #[cfg(test)]
 mod tests;
 
-use self::lent::{Lines, Ranges, Table};
+use self::lent::{EffectMut, Lines, Ranges, Table};
 
 /// The least length of each list that `lent::read` fills.
 pub const READ_ROOM: usize = 4096;
@@ -43,8 +43,14 @@ pub const PANEL_ROOM: usize = 4096;
 /// The largest number of entries, one for each head, that a panel may have.
 pub const MOST_HEADS: usize = 64;
 
-/// Stands for a time that there is not, in the columns `somes` and `alls`.
+/// Stands for a time that there is not, in the columns `somes` and `alls`, and in `some` and `all` of `lent::preview`.
 pub const NONE: u64 = 4_294_967_296;
+
+/// The kind that `lent::preview` sets where the range joins the last segment.
+pub const JOINS: u32 = 0;
+
+/// The kind that it sets where the range begins a segment.
+pub const BEGINS: u32 = 1;
 
 /// A trace: a detector's address, 1 to 65,535, its service level and its ranges, in three lists of one length.
 #[derive(Clone, Debug, PartialEq, Eq)]
@@ -84,6 +90,14 @@ pub struct Segment {
     pub last_time: u32,
     pub ranges: u32,
     pub outlook: Outlook,
+}
+
+/// What a range would do if it were added: join the last segment, or begin one; with the outlook of the last segment
+/// then. What begins is always open.
+#[derive(Clone, Copy, Debug, PartialEq, Eq)]
+pub enum Effect {
+    Joins(Outlook),
+    Begins(Outlook),
 }
 
 /// A head on a panel, as `humoraki.h` has it: its address, 1 to 65,535, and how many ranges it holds.
@@ -157,6 +171,26 @@ pub fn corners(trace: &Trace, k: usize) -> Result<Vec<Line>, u8> {
     Ok((0..count).map(|place| Line { p: ps[place], q: qs[place], d: ds[place] }).collect())
 }
 
+/// The effect of a range before it is added to a trace: what `segment` tells of a copy with the range behind it.
+pub fn preview(trace: &Trace, time: u32, low: i32, high: i32) -> Result<Effect, u8> {
+    let [mut slow, mut fast] = [Line { p: 0, q: 0, d: 0 }; 2];
+    let (mut kind, mut some, mut all) = (0, 0, 0);
+    let effect = EffectMut {
+        kind: &mut kind,
+        slow_p: &mut slow.p,
+        slow_q: &mut slow.q,
+        slow_d: &mut slow.d,
+        fast_p: &mut fast.p,
+        fast_q: &mut fast.q,
+        fast_d: &mut fast.d,
+        some: &mut some,
+        all: &mut all,
+    };
+    lent::preview(trace.level, trace.ranges(), time, low, high, effect)?;
+    let outlook = outlook_of(kind == BEGINS, slow, fast, some, all);
+    Ok(if kind == JOINS { Effect::Joins(outlook) } else { Effect::Begins(outlook) })
+}
+
 /// The text of a file's report. A file that is turned down has one too.
 pub fn report(file: &[u8]) -> Vec<u8> {
     let mut text = vec![0; REPORT_ROOM];
@@ -176,15 +210,16 @@ fn segment_at(table: &Table, place: usize) -> Segment {
 }
 
 fn outlook_at(table: &Table, place: usize) -> Outlook {
-    if table.counts[place] == 1 {
+    let slow = Line { p: table.slow_ps[place], q: table.slow_qs[place], d: table.slow_ds[place] };
+    let fast = Line { p: table.fast_ps[place], q: table.fast_qs[place], d: table.fast_ds[place] };
+    outlook_of(table.counts[place] == 1, slow, fast, table.somes[place], table.alls[place])
+}
+
+fn outlook_of(open: bool, slow: Line, fast: Line, some: u64, all: u64) -> Outlook {
+    if open {
         return Outlook::Open;
     }
-    Outlook::Lines {
-        slow: Line { p: table.slow_ps[place], q: table.slow_qs[place], d: table.slow_ds[place] },
-        fast: Line { p: table.fast_ps[place], q: table.fast_qs[place], d: table.fast_ds[place] },
-        some: time(table.somes[place]),
-        all: time(table.alls[place]),
-    }
+    Outlook::Lines { slow, fast, some: time(some), all: time(all) }
 }
 
 /// `NONE` is the least number that is no time.

@@ -1,6 +1,8 @@
 //! The calls, on a trace whose answers are known.
 
-use super::declarations::{humoraki_corners, humoraki_read, humoraki_report, humoraki_segment, humoraki_write};
+use super::declarations::{
+    humoraki_corners, humoraki_preview, humoraki_read, humoraki_report, humoraki_segment, humoraki_write,
+};
 use super::lent::Columns;
 use super::*;
 use std::ptr::{null, null_mut};
@@ -126,6 +128,61 @@ fn one_range_is_open() {
     assert_eq!(segment(&trace).unwrap()[0].outlook, Outlook::Open);
 }
 
+/// The example's ranges up to a count, and the effect of the next.
+fn effect_after(count: usize) -> Result<Effect, u8> {
+    let Trace { times, lows, highs, .. } = example();
+    let mut trace = example();
+    trace.times.truncate(count);
+    trace.lows.truncate(count);
+    trace.highs.truncate(count);
+    preview(&trace, times[count], lows[count], highs[count])
+}
+
+#[test]
+fn a_preview_joins_or_begins() {
+    let joined = Outlook::Lines { slow: line(1, 70, 10), fast: line(3, -30, 10), some: Some(77), all: Some(130) };
+    assert_eq!(preview(&example(), 60, 13, 16), Ok(Effect::Joins(joined)));
+    assert_eq!(preview(&example(), 60, 16, 18), Ok(Effect::Begins(Outlook::Open)));
+}
+
+#[test]
+fn previews_tell_the_segments_to_come() {
+    let segments = segment(&example()).unwrap();
+    assert_eq!(effect_after(0), Ok(Effect::Begins(Outlook::Open)));
+    assert!(matches!(effect_after(1), Ok(Effect::Joins(Outlook::Lines { .. }))));
+    assert_eq!(effect_after(2), Ok(Effect::Joins(segments[0].outlook)));
+    assert_eq!(effect_after(3), Ok(Effect::Begins(Outlook::Open)));
+    assert_eq!(effect_after(4), Ok(Effect::Joins(segments[1].outlook)));
+}
+
+#[test]
+fn a_preview_is_refused_as_the_longer_trace_is() {
+    assert_eq!(preview(&example(), 60, -268_435_457, 16), Err(4));
+    assert_eq!(preview(&example(), 50, 17, 16), Err(5));
+    assert_eq!(preview(&example(), 50, 13, 16), Err(6));
+    let mut trace = example();
+    trace.highs[4] = 8;
+    assert_eq!(preview(&trace, 50, 13, 268_435_457), Err(5));
+    trace.level = i32::MIN;
+    assert_eq!(preview(&trace, 50, 13, 16), Err(4));
+    trace.highs.pop();
+    assert_eq!(preview(&trace, 50, 13, 16), Err(10));
+}
+
+#[test]
+fn a_full_list_comes_before_level_and_range() {
+    let mut trace = example();
+    for (count, number) in [(4095, 4), (4096, 7), (5000, 7)] {
+        trace.times = vec![0; count];
+        trace.lows = vec![0; count];
+        trace.highs = vec![4; count];
+        trace.level = i32::MAX;
+        assert_eq!(preview(&trace, 0, 1, 0), Err(number));
+    }
+    trace.lows.push(0);
+    assert_eq!(preview(&trace, 0, 1, 0), Err(10));
+}
+
 #[test]
 fn a_refused_file_has_a_report() {
     assert_eq!(report(&[]), b"refused 1\n");
@@ -224,6 +281,24 @@ fn corners_takes_null_slices() {
         assert_eq!((ps, qs, ds), ([77; CORNER_ROOM], [77; CORNER_ROOM], [77; CORNER_ROOM]));
         assert_eq!(count, 77);
     }
+}
+
+/// The number of a preview on null lists, with the kind, the lines and the times that it is to set.
+fn preview_without(low: i32, (kind, lines, times): &mut (u32, [i64; 6], [u64; 2])) -> u8 {
+    let [slow_p, slow_q, slow_d, fast_p, fast_q, fast_d] = lines.each_mut();
+    let [some, all] = times.each_mut();
+    call_without!("nothing", humoraki_preview(
+        20; u32, i32, i32; ; 60, low, 16, kind, slow_p, slow_q, slow_d, fast_p, fast_q, fast_d, some, all
+    ))
+}
+
+#[test]
+fn preview_takes_null_slices() {
+    let mut numbers = (77, [77; 6], [77; 2]);
+    assert_eq!(preview_without(17, &mut numbers), 5);
+    assert_eq!(numbers, (77, [77; 6], [77; 2]));
+    assert_eq!(preview_without(13, &mut numbers), 0);
+    assert_eq!(numbers, (BEGINS, [0; 6], [0; 2]));
 }
 
 #[test]

@@ -51,6 +51,12 @@ fn drop_head(end_of: impl Fn(u32) -> Point, chain: &[u32], part: Part, new: Poin
 }
 
 impl Chains<'_> {
+    /// The steepest line of the fit to a top that is between the slow and the fast line.
+    pub fn fast_to<const M: bool>(&self, ends: Ends<M>, lower: Part, top: Point) -> Line {
+        let start = drop_head(|i| ends.bottom(i), self.down, lower, top);
+        Line::through(ends.bottom(self.down[start]), top)
+    }
+
     pub fn mirror(&mut self) -> Chains<'_> {
         Chains { up: self.down, down: self.up }
     }

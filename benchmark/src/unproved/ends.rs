@@ -1,7 +1,21 @@
-//! The ends of ranges as points, as they are or in the mirror.
+//! The ends of ranges as points, as they are or in the mirror, and a range by itself.
 
 use super::line::Point;
 use humoraki::lent::Ranges;
+
+/// The two ends of one range.
+#[derive(Clone, Copy)]
+pub struct Bar {
+    pub top: Point,
+    pub bottom: Point,
+}
+
+impl Bar {
+    pub fn of(time: u32, low: i32, high: i32) -> Self {
+        let end = |value: i32| Point { time: i64::from(time), value: i64::from(value) };
+        Bar { top: end(high), bottom: end(low) }
+    }
+}
 
 /// The ranges as one side sees them: their tops are the highs, or in the mirror the lows, negated. The side is known at
 /// compile time, so that each has code of its own.
@@ -34,6 +48,10 @@ impl<const MIRRORED: bool> Ends<'_, MIRRORED> {
 
     pub fn bottom(self, k: u32) -> Point {
         self.point(self.bottoms, k)
+    }
+
+    pub fn bar(self, k: u32) -> Bar {
+        Bar { top: self.top(k), bottom: self.bottom(k) }
     }
 
     pub fn has_width(self, k: u32) -> bool {

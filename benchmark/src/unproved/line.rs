@@ -6,6 +6,12 @@ pub struct Point {
     pub value: i64,
 }
 
+impl Point {
+    pub fn negated(self) -> Point {
+        Point { value: -self.value, ..self }
+    }
+}
+
 /// The line whose value at t is (p·t + q)/d, with d above 0.
 #[derive(Clone, Copy)]
 pub struct Line {

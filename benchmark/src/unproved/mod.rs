@@ -1,5 +1,5 @@
-//! The unproved program: Segment, Corners and the calls on a panel by the algorithm of the proved one, in ordinary safe
-//! Rust.
+//! The unproved program: Segment, Corners, Preview and the calls on a panel by the algorithm of the proved one, in
+//! ordinary safe Rust.
 
 mod chains;
 mod corner_list;
@@ -13,8 +13,8 @@ mod run;
 mod trial;
 
 use chains::Chains;
-use ends::Ends;
-use humoraki::lent::{Columns, Lines, Panel, PanelMut, Ranges, RangesMut};
+use ends::{Bar, Ends};
+use humoraki::lent::{Columns, EffectMut, Lines, Panel, PanelMut, Ranges, RangesMut};
 use outlook::Outlook;
 use rows::Segment;
 
@@ -59,6 +59,20 @@ pub fn corners(k: usize, ranges: Ranges, mut out: Lines) -> Result<usize, u8> {
     let ends = Ends::of(ranges);
     let polygon = run::last_polygon(ends, &mut chains, k as u32);
     Ok(polygon.map_or(0, |found| corner_list::list_corners(ends, &chains, found, &mut out)))
+}
+
+/// The effect of a range behind some ranges, or the number of a refusal.
+#[inline(never)]
+pub fn preview(level: i32, ranges: Ranges, range: (u32, i32, i32), out: EffectMut) -> Result<(), u8> {
+    trial::try_preview(level, ranges, range)?;
+    let mut up = [0; trial::MOST_RANGES];
+    let mut down = [0; trial::MOST_RANGES];
+    let mut chains = Chains { up: &mut up, down: &mut down };
+    let (time, low, high) = range;
+    let lines = run::last_lines(Ends::of(ranges), &mut chains, ranges.times.len() as u32, Bar::of(time, low, high));
+    let outlook = lines.map_or(Outlook::Open, |(slow, fast)| Outlook::of_lines(slow, fast, level, time));
+    rows::tell(out, outlook);
+    Ok(())
 }
 
 /// Puts a range on a panel, or gives the number of a refusal.

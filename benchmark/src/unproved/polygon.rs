@@ -1,8 +1,8 @@
 //! The polygon of a fit as two chains of ends of ranges and two lines, and the polygon with one more range.
 
 use super::chains::{Chains, Part};
-use super::ends::Ends;
-use super::line::Line;
+use super::ends::{Bar, Ends};
+use super::line::{Line, Point};
 
 /// The chains of high ends and of low ends, the line of least slope and the line of greatest slope.
 #[derive(Clone, Copy)]
@@ -96,6 +96,24 @@ impl Polygon {
             return self.alone(self.fast);
         }
         self
+    }
+
+    /// The fast line of those at or below a top, of which there are some.
+    fn fast_below<const M: bool>(self, ends: Ends<M>, chains: &Chains, top: Point) -> Line {
+        if !self.fast.is_above(top) {
+            self.fast
+        } else if self.slow.reaches(top) {
+            self.slow
+        } else {
+            chains.fast_to(ends, self.lower, top)
+        }
+    }
+
+    /// The slow and the fast line with one range more, which joins the run; the polygon itself is not made.
+    pub fn lines_with(self, ends: Ends<false>, chains: &mut Chains, range: Bar) -> (Line, Line) {
+        let fast = self.fast_below(ends, chains, range.top);
+        let slow = self.mirror().fast_below(ends.mirror(), &chains.mirror(), range.bottom.negated());
+        (slow.negated(), fast)
     }
 
     /// The polygon after range k, which joins the run.

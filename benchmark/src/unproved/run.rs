@@ -1,7 +1,8 @@
 //! The run that begins at a range and goes as far as some line fits it.
 
 use super::chains::Chains;
-use super::ends::Ends;
+use super::ends::{Bar, Ends};
+use super::line::Line;
 use super::polygon::Polygon;
 
 /// The number of the range after a run's last, and the run's polygon; a run of one range has none.
@@ -10,9 +11,9 @@ pub struct Reach {
     pub polygon: Option<Polygon>,
 }
 
-/// Whether range k has no line with the run: slow is above it, or fast is below it.
-fn closes(ends: Ends<false>, polygon: &Polygon, k: u32) -> bool {
-    polygon.slow.is_above(ends.top(k)) || !polygon.fast.reaches(ends.bottom(k))
+/// Whether a range has no line with the run: slow is above it, or fast is below it.
+fn closes(polygon: &Polygon, range: Bar) -> bool {
+    polygon.slow.is_above(range.top) || !polygon.fast.reaches(range.bottom)
 }
 
 /// The run from range i on, among the first n.
@@ -22,7 +23,7 @@ pub fn run_from(ends: Ends<false>, chains: &mut Chains, i: u32, n: u32) -> Reach
     }
     let mut polygon = Polygon::of_two(ends, chains, i, i + 1);
     let mut k = i + 2;
-    while k < n && !closes(ends, &polygon, k) {
+    while k < n && !closes(&polygon, ends.bar(k)) {
         polygon = polygon.join(ends, chains, k);
         k += 1;
     }
@@ -36,4 +37,19 @@ pub fn last_polygon(ends: Ends<false>, chains: &mut Chains, k: u32) -> Option<Po
         reach = run_from(ends, chains, reach.end, k);
     }
     reach.polygon
+}
+
+/// The slow and the fast line of the segment running after the first n ranges, with one range more, if it joins.
+pub fn last_lines(ends: Ends<false>, chains: &mut Chains, n: u32, range: Bar) -> Option<(Line, Line)> {
+    if n == 0 {
+        return None;
+    }
+    match last_polygon(ends, chains, n) {
+        None => {
+            let only = ends.bar(n - 1);
+            Some((Line::through(only.top, range.bottom), Line::through(only.bottom, range.top)))
+        }
+        Some(polygon) if closes(&polygon, range) => None,
+        Some(polygon) => Some(polygon.lines_with(ends, chains, range)),
+    }
 }

@@ -11,32 +11,38 @@ pub fn value_outside(value: i32) -> bool {
     !(-MOST_VALUE..=MOST_VALUE).contains(&value)
 }
 
-/// The ranges one after the other: the number of the first that is turned down.
-fn try_ranges(ranges: Ranges) -> Result<(), u8> {
+/// One range: the least time of the next, or the number that turns it down.
+fn try_range(least: u64, (time, low, high): (u32, i32, i32)) -> Result<u64, u8> {
+    if value_outside(low) || value_outside(high) {
+        return Err(4);
+    }
+    if high < low {
+        return Err(5);
+    }
+    if u64::from(time) < least {
+        return Err(6);
+    }
+    Ok(u64::from(time) + 1)
+}
+
+/// The ranges one after the other, likewise.
+fn try_ranges(ranges: Ranges) -> Result<u64, u8> {
     let mut least = 0;
     let values = ranges.lows.iter().zip(ranges.highs);
     for (&time, (&low, &high)) in ranges.times.iter().zip(values) {
-        if value_outside(low) || value_outside(high) {
-            return Err(4);
-        }
-        if high < low {
-            return Err(5);
-        }
-        if u64::from(time) < least {
-            return Err(6);
-        }
-        least = u64::from(time) + 1;
+        least = try_range(least, (time, low, high))?;
     }
-    Ok(())
+    Ok(least)
 }
 
-fn try_lists(short: bool, outside: bool, ranges: Ranges) -> Result<(), u8> {
+/// The lists, which may have so many ranges: the least time of the next, or the number that turns them down.
+fn try_lists(short: bool, most: usize, outside: bool, ranges: Ranges) -> Result<u64, u8> {
     let n = ranges.times.len();
     if short {
         Err(8)
     } else if n != ranges.lows.len() || n != ranges.highs.len() {
         Err(10)
-    } else if MOST_RANGES < n {
+    } else if most < n {
         Err(7)
     } else if outside {
         Err(4)
@@ -56,13 +62,19 @@ macro_rules! try_columns {
 humoraki::segment_columns!(try_columns);
 
 pub fn try_segment(level: i32, ranges: Ranges, out: &Columns) -> Result<(), u8> {
-    try_lists(is_short(out), value_outside(level), ranges)
+    try_lists(is_short(out), MOST_RANGES, value_outside(level), ranges).map(|_| ())
+}
+
+/// A range more must have a place.
+pub fn try_preview(level: i32, ranges: Ranges, range: (u32, i32, i32)) -> Result<(), u8> {
+    let least = try_lists(false, MOST_RANGES - 1, value_outside(level), ranges)?;
+    try_range(least, range).map(|_| ())
 }
 
 pub fn try_corners(k: usize, ranges: Ranges, out: &Lines) -> Result<(), u8> {
     let lengths = [out.ps.len(), out.qs.len(), out.ds.len()];
     let short = lengths.iter().any(|&n| n < CORNER_ROOM);
-    try_lists(short, false, ranges)?;
+    try_lists(short, MOST_RANGES, false, ranges)?;
     if k == 0 || ranges.times.len() < k {
         return Err(9);
     }

@@ -6,6 +6,7 @@ pub mod corners;
 pub mod head_ranges;
 pub mod lists;
 pub mod panel;
+pub mod preview;
 pub mod read;
 pub mod report;
 pub mod segment;

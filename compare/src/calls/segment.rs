@@ -4,7 +4,6 @@ use super::columns::{LentColumns, Row};
 use super::lists::LentLists;
 use super::{Returned, narrow, number, unless_short};
 use crate::lent::{Lent, Use, Watched, lend_room};
-use crate::line::Line;
 use crate::outlook::Outlook;
 use crate::random::Random;
 use crate::room::Room;
@@ -53,25 +52,32 @@ impl SegmentCall {
     }
 }
 
-/// An open segment has 0 for its lines and times.
 pub fn row(segment: &Segment) -> Row {
-    let none = Line { p: 0, q: 0, d: 0 };
-    let (slow, fast, some, all) = match segment.outlook {
-        Outlook::Open => (none, none, 0, 0),
-        Outlook::Lines { slow, fast, some, all } => (slow, fast, time(some), time(all)),
-    };
+    let (lines, times) = outlook_numbers(&segment.outlook);
+    let [slow_ps, slow_qs, slow_ds, fast_ps, fast_qs, fast_ds] = lines;
+    let [somes, alls] = times;
     Row {
         first_times: segment.first,
         last_times: segment.last,
         counts: segment.count as u32,
-        slow_ps: narrow(slow.p),
-        slow_qs: narrow(slow.q),
-        slow_ds: narrow(slow.d),
-        fast_ps: narrow(fast.p),
-        fast_qs: narrow(fast.q),
-        fast_ds: narrow(fast.d),
-        somes: some,
-        alls: all,
+        slow_ps,
+        slow_qs,
+        slow_ds,
+        fast_ps,
+        fast_qs,
+        fast_ds,
+        somes,
+        alls,
+    }
+}
+
+/// The numbers of the slow and the fast line, and the two times; an open outlook has 0 for all of them.
+pub fn outlook_numbers(outlook: &Outlook) -> ([i64; 6], [u64; 2]) {
+    match *outlook {
+        Outlook::Open => ([0; 6], [0; 2]),
+        Outlook::Lines { slow, fast, some, all } => {
+            ([slow.p, slow.q, slow.d, fast.p, fast.q, fast.d].map(narrow), [some, all].map(time))
+        }
     }
 }
 

@@ -7,7 +7,7 @@ use crate::difference::Outcome;
 use crate::file;
 use crate::room::Room;
 use crate::segments::BY_CLIPPING;
-use crate::trace::{LARGEST_ADDRESS, Lists, MOST_RANGES, Trace};
+use crate::trace::{LARGEST_ADDRESS, LARGEST_VALUE, LEAST_VALUE, Lists, MOST_RANGES, Range, Trace};
 use crate::traces::long::full;
 use humoraki::WRITE_ROOM;
 
@@ -52,6 +52,17 @@ fn as_lists(desk: &mut Desk, count: usize) -> Outcome {
     for k in [0, 1, 2, count, count + 1] {
         let expected = answers::corners(k, &lists, BY_CLIPPING);
         desk.corners(k, &lists, borrowed(&expected), &Room::enough())?;
+    }
+    previews(desk, &lists)
+}
+
+/// A good range behind all others, and a level and a range that are wrong.
+fn previews(desk: &mut Desk, lists: &Lists) -> Outcome {
+    let time = lists.times.len() as u32;
+    let good = Range { time, low: LEAST_VALUE, high: LARGEST_VALUE };
+    for (level, range) in [(0, good), (i32::MAX, good), (0, Range { low: 1, high: 0, ..good })] {
+        let expected = answers::preview(level, lists, &range, BY_CLIPPING);
+        desk.preview((level, lists, &range), borrowed(&expected))?;
     }
     Ok(())
 }

@@ -14,13 +14,22 @@ use crate::traces::long::full;
 use crate::traces::small::small_ranges;
 use humoraki::{CORNER_ROOM, SEGMENT_ROOM, WRITE_ROOM};
 
+/// What may be wrong with one range.
 #[derive(Clone, Copy, PartialEq)]
-enum Fault {
-    TooMany,
+pub enum RangeFault {
     Low,
     High,
     LowAboveHigh,
     TimeNotRising,
+}
+
+pub const RANGE_FAULTS: [RangeFault; 4] =
+    [RangeFault::Low, RangeFault::High, RangeFault::LowAboveHigh, RangeFault::TimeNotRising];
+
+#[derive(Clone, Copy, PartialEq)]
+enum Fault {
+    TooMany,
+    InRange(RangeFault),
     LengthsDiffer,
     ShortSlice,
     Address,
@@ -31,10 +40,10 @@ enum Fault {
 /// Faults in ranges come before the lengths are changed, so that there is a range to spoil.
 const FAULTS: [Fault; 10] = [
     Fault::TooMany,
-    Fault::Low,
-    Fault::High,
-    Fault::LowAboveHigh,
-    Fault::TimeNotRising,
+    Fault::InRange(RangeFault::Low),
+    Fault::InRange(RangeFault::High),
+    Fault::InRange(RangeFault::LowAboveHigh),
+    Fault::InRange(RangeFault::TimeNotRising),
     Fault::LengthsDiffer,
     Fault::ShortSlice,
     Fault::Address,
@@ -80,7 +89,8 @@ fn sound(many: bool, random: &mut Random) -> Handed {
     }
 }
 
-fn some_ranges(random: &mut Random) -> Vec<Range> {
+/// Two or more.
+pub fn some_ranges(random: &mut Random) -> Vec<Range> {
     loop {
         let (ranges, _) = small_ranges(random);
         if ranges.len() > 1 {
@@ -99,10 +109,7 @@ fn spoil(handed: &mut Handed, fault: Fault, random: &mut Random) {
         Fault::LengthsDiffer => change_length(lists, random),
         Fault::Address => handed.address = addresses::outside(random),
         Fault::Level => handed.level = outside(random),
-        Fault::Low => lists.lows[place] = outside(random),
-        Fault::High => lists.highs[place] = outside(random),
-        Fault::LowAboveHigh => lists.lows[place] = lists.highs[place].saturating_add(1),
-        Fault::TimeNotRising => lists.times[place] = lists.times[place.saturating_sub(1)],
+        Fault::InRange(fault) => spoil_range(lists, place, fault, random),
         Fault::Prefix => {
             let count = lists.times.len();
             handed.k = random.pick(&[0, 0, count + 1, count + 5, usize::MAX]);
@@ -110,9 +117,18 @@ fn spoil(handed: &mut Handed, fault: Fault, random: &mut Random) {
     }
 }
 
+pub fn spoil_range(lists: &mut Lists, place: usize, fault: RangeFault, random: &mut Random) {
+    match fault {
+        RangeFault::Low => lists.lows[place] = outside(random),
+        RangeFault::High => lists.highs[place] = outside(random),
+        RangeFault::LowAboveHigh => lists.lows[place] = lists.highs[place].saturating_add(1),
+        RangeFault::TimeNotRising => lists.times[place] = lists.times[place.saturating_sub(1)],
+    }
+}
+
 /// One or two of the lists empty, one shorter or one longer.
-fn change_length(lists: &mut Lists, random: &mut Random) {
-    let count = random.pick(&[0, lists.times.len() - 1, lists.times.len() + 1]);
+pub fn change_length(lists: &mut Lists, random: &mut Random) {
+    let count = random.pick(&[0, lists.times.len().saturating_sub(1), lists.times.len() + 1]);
     let changed = 1 + random.below(6);
     if changed & 1 != 0 {
         lists.times.resize(count, 0);

@@ -1,5 +1,7 @@
-//! Long traces against the clipped polygon: every call, with Corners for every k or for many.
+//! Long traces against the clipped polygon: every call, with Corners for every k, and Preview for every range, or for
+//! many.
 
+use crate::answers::Effect;
 use crate::desk::Desk;
 use crate::difference::{Difference, Outcome};
 use crate::file;
@@ -9,13 +11,14 @@ use crate::room::Room;
 use crate::segments::{BY_CLIPPING, Segment, Stage, stages};
 use crate::trace::{Lists, MOST_RANGES, Range, Trace};
 use crate::traces::addresses::address;
-use crate::traces::levels::level;
+use crate::traces::levels;
 use crate::traces::long::SHAPES;
+use std::slice;
 
 /// Traces of so many ranges are tried by both fitters.
 const TRIED: usize = 60;
 
-/// Traces of no more ranges than this have Corners compared for every k.
+/// Traces of no more ranges than this have Corners and Preview compared for every k.
 const EVERY_K: usize = 300;
 
 /// For longer ones, about so many k are compared.
@@ -41,7 +44,7 @@ pub fn compare(desk: &mut Desk) -> Outcome {
     Ok(())
 }
 
-/// Compares Corners, and gives the last stage of each segment.
+/// Compares Corners and Preview, and gives the last stage of each segment.
 fn every_stage(desk: &mut Desk, ranges: &[Range]) -> Result<Vec<Stage>, Box<Difference>> {
     let lists = Lists::of(ranges);
     let count = ranges.len();
@@ -52,6 +55,7 @@ fn every_stage(desk: &mut Desk, ranges: &[Range]) -> Result<Vec<Stage>, Box<Diff
             desk.corners(stage.end, &lists, Ok(&stage.corners), &Room::enough())?;
             desk.tally.add("long traces: corners", stage.corners.len());
             desk.tally.raise("long traces: most corners of one fit", stage.corners.len());
+            last_range(desk, &stage, ranges)?;
         }
         stage.keep(&mut last_stages);
     }
@@ -60,8 +64,19 @@ fn every_stage(desk: &mut Desk, ranges: &[Range]) -> Result<Vec<Stage>, Box<Diff
     Ok(last_stages)
 }
 
+/// Compares Preview of the last range of a stage behind those before it.
+fn last_range(desk: &mut Desk, stage: &Stage, ranges: &[Range]) -> Outcome {
+    let level = levels::level(ranges, slice::from_ref(stage), &mut desk.random);
+    let place = stage.end - 1;
+    let lists = Lists::of(&ranges[..place]);
+    let effect = Effect::at(stage, ranges, level);
+    desk.tally.add("long traces: previews", 1);
+    desk.tally.raise("long traces: most ranges before the one previewed", place);
+    desk.preview((level, &lists, &ranges[place]), Ok(&effect))
+}
+
 fn at_some_level(desk: &mut Desk, ranges: &[Range], last_stages: &[Stage]) -> Outcome {
-    let level = level(ranges, last_stages, &mut desk.random);
+    let level = levels::level(ranges, last_stages, &mut desk.random);
     let segments: Vec<Segment> = last_stages.iter().map(|stage| stage.segment(ranges, level)).collect();
     let trace = Trace { address: address(&mut desk.random), level, ranges: ranges.to_vec() };
     let lists = Lists::of(ranges);

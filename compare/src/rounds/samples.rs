@@ -12,7 +12,7 @@ use crate::trace::{Lists, Range, Trace};
 
 type Numbers = [i128; 3];
 
-const SAMPLE: [(u32, i32, i32); 5] = [(10, 0, 4), (20, 4, 8), (30, 10, 14), (40, 9, 11), (50, 9, 12)];
+pub const SAMPLE: [(u32, i32, i32); 5] = [(10, 0, 4), (20, 4, 8), (30, 10, 14), (40, 9, 11), (50, 9, 12)];
 
 const SAMPLE_REPORT: &str = "\
 detector 7 level 20 ranges 5 segments 2
@@ -65,7 +65,7 @@ fn addresses(desk: &mut Desk) -> Outcome {
     report(desk, &[1, 0, 2, 1], "refused 1\n")
 }
 
-fn ranges(numbers: &[(u32, i32, i32)]) -> Vec<Range> {
+pub fn ranges(numbers: &[(u32, i32, i32)]) -> Vec<Range> {
     numbers.iter().map(|&(time, low, high)| Range { time, low, high }).collect()
 }
 
@@ -101,7 +101,7 @@ fn report(desk: &mut Desk, file: &[u8], scope: &str) -> Outcome {
     desk.file(file, BY_TRYING)
 }
 
-fn agree(expected: String, given: String, lists: &Lists) -> Outcome {
+pub fn agree(expected: String, given: String, lists: &Lists) -> Outcome {
     if expected == given {
         return Ok(());
     }

@@ -1,4 +1,5 @@
-//! Random small traces: every call, with Corners for every k and for some that are too large.
+//! Random small traces: every call, with Corners for every k and for some that are too large, and Preview for every
+//! range.
 
 use crate::answers;
 use crate::desk::Desk;
@@ -9,6 +10,7 @@ use crate::meaning;
 use crate::outlook::Outlook;
 use crate::report;
 use crate::room::Room;
+use crate::rounds::previews;
 use crate::segments::{BY_TRYING, Segment, Stage, segments, stages};
 use crate::tally::Tally;
 use crate::trace::{LAST_TIME, Lists, Range, Trace};
@@ -21,6 +23,7 @@ pub fn compare(desk: &mut Desk, traces: usize) -> Outcome {
     for kind in kinds() {
         desk.tally.add(kind, 0);
     }
+    previews::count_none(desk);
     for _ in 0..traces {
         let (ranges, kind) = small_ranges(&mut desk.random);
         let stages: Vec<Stage> = stages(&ranges, BY_TRYING).collect();
@@ -35,6 +38,7 @@ pub fn compare(desk: &mut Desk, traces: usize) -> Outcome {
         count_times(&mut desk.tally, &stages, &segments, level);
         calls(desk, &trace, &segments)?;
         every_prefix(desk, &trace, &stages)?;
+        previews::compare(desk, &trace, &segments)?;
     }
     Ok(())
 }
