@@ -1,5 +1,6 @@
 -- A range joins a run, or it closes it: then two ranges of the run and the new one already have no line. And the polygon of a run, range by range.
 --
+--     neg-fits-range         the image of a line fits the image of a range that the line fits
 --     Closed rs r            two ranges of rs that have no line together with r
 --     closes-high, closes-low   slow is above r's high end, or fast is below r's low end: r closes rs
 --     closed-none            no line fits rs and r; closed-map: of a run with the same ranges
@@ -42,7 +43,7 @@ no-line-above : (s : Line) (i j r : Range) → pos 0 <ℤ s .d → i .time < j .
 no-line-above s i j r s-over lt le a b k l l-over f g h =
     closed s l (H i) (L j) s-over l-over (time< _ _ lt) a b (under-H f) (over-L g) (H r) (time≤ _ _ le) k (under-H h)
 
-neg-fits-range : {l : Line} {r : Range} → FitsRange l r → FitsRange (negL l) (negR r)
+pub neg-fits-range : {l : Line} {r : Range} → FitsRange l r → FitsRange (negL l) (negR r)
 neg-fits-range {l} {r} f = fits-range (neg-under l (H r) (under-H f)) (neg-over l (L r) (over-L f))
 
 -- s touches the low end of i and the high end of the later j, and is below the low end of r: the mirror image

@@ -1,6 +1,6 @@
 -- The mirror image: every value negated. Upper and lower ends, slow and fast, above and below change places, so that one definition and one proof serve both sides of the fit.
 --
---     negP, negL, negR               the mirror image of a point, a line, a range
+--     negP, negL, negR               the mirror image of a point, a line, a range; the last two are those of the definitions
 --     negs                           of each point of a list
 --     negP-negP, negL-negL, negs-negs   twice is the thing itself
 --     through-neg, un-through        the image of the line through two points is the line through their images
@@ -10,7 +10,8 @@
 --     image-touches, over-image                     the image of a line against a point is the line against the image of the point
 --     neg-slope<, un-slope<, neg-slope≤, un-slope≤, un-below, neg-same, un-same   slopes and values of images
 --     neg-mean                       a mean of images
---     neg-<, neg-<-flip              of two numbers
+--     neg-product, neg-product<      of two products that are equal, of one that is below the other
+--     neg-<-flip                     of two numbers
 --
 -- Assumes nothing.
 use mathlib.Core.Path.{_≡_, refl, sym, _∙_, ap, ap₂}
@@ -21,19 +22,13 @@ use Rattle.integers.specs.RingSolver.{lit}
 use Rattle.integers.specs.Certificates.{hyp, num, eqn}
 use Rattle.integers.specs.Quotes.{quotes, ring! }
 use Rattle.integers.specs.Solve.{claims, certify! }
-use Rattle.definitions.specs.Ranges.{Range}
 use Rattle.definitions.specs.Lines.{Line}
 use Rattle.definitions.specs.Fit.{SameLine, SlopeBelow}
+pub use Rattle.definitions.specs.Mirrors.{mirroredLine as negL, mirroredRange as negR}
 use Rattle.chains.specs.Points.{Point, gap, Touches, through, SlopeAtMost, Below, Mean}
 
 abbrev pub negP : Point → Point
 negP A = record { t = A .t; u = negℤ (A .u) }
-
-abbrev pub negL : Line → Line
-negL l = record { p = negℤ (l .p); q = negℤ (l .q); d = l .d }
-
-abbrev pub negR : Range → Range
-negR r = record { time = r .time; low = negℤ (r .high); high = negℤ (r .low) }
 
 abbrev pub negs : List Point → List Point
 negs xs = map negP xs
@@ -94,10 +89,20 @@ module _ (l : Line) (A : Point) where
   pub over-image : pos 0 ≤ℤ gap l (negP A) → gap (negL l) A ≤ℤ pos 0
   over-image = certify! (l .p ∷ l .q ∷ l .d ∷ A .t ∷ A .u ∷ []) (search claims depth 40) (num 1) (hyp 0) tt
 
+-- ---- two products
+pub neg-product : (a b c e : ℤ) → a *ℤ b ≡ c *ℤ e → negℤ c *ℤ e ≡ negℤ a *ℤ b
+neg-product a b c e = certify! (a ∷ b ∷ c ∷ e ∷ []) (search claims depth 40) (num 1) (eqn 0 (lit (pos 1))) tt
+
+pub neg-product< : (a b c e : ℤ) → (a *ℤ b) <ℤ (c *ℤ e) → (negℤ c *ℤ e) <ℤ (negℤ a *ℤ b)
+neg-product< a b c e = certify! (a ∷ b ∷ c ∷ e ∷ []) (search claims depth 40) (num 1) (hyp 0) tt
+
+un-product : (a b c e : ℤ) → negℤ a *ℤ b ≡ negℤ c *ℤ e → a *ℤ b ≡ c *ℤ e
+un-product a b c e = certify! (a ∷ b ∷ c ∷ e ∷ []) (search claims depth 40) (num 1) (eqn 0 (lit (negsuc 0))) tt
+
 -- ---- two lines
 module _ (l m : Line) where
   pub neg-slope< : SlopeBelow l m → SlopeBelow (negL m) (negL l)
-  neg-slope< = certify! (l .p ∷ l .d ∷ m .p ∷ m .d ∷ []) (search claims depth 40) (num 1) (hyp 0) tt
+  neg-slope< = neg-product< (l .p) (m .d) (m .p) (l .d)
 
   pub un-slope< : SlopeBelow (negL l) (negL m) → SlopeBelow m l
   un-slope< = certify! (l .p ∷ l .d ∷ m .p ∷ m .d ∷ []) (search claims depth 40) (num 1) (hyp 0) tt
@@ -111,14 +116,8 @@ module _ (l m : Line) where
   pub un-below : (t : ℤ) → Below (negL l) (negL m) t → Below m l t
   un-below t = certify! (l .p ∷ l .q ∷ l .d ∷ m .p ∷ m .q ∷ m .d ∷ t ∷ []) (search claims depth 40) (num 1) (hyp 0) tt
 
-neg-product : (a b c e : ℤ) → a *ℤ b ≡ c *ℤ e → negℤ c *ℤ e ≡ negℤ a *ℤ b
-neg-product a b c e = certify! (a ∷ b ∷ c ∷ e ∷ []) (search claims depth 40) (num 1) (eqn 0 (lit (pos 1))) tt
-
 pub neg-same : (l m : Line) → SameLine l m → SameLine (negL m) (negL l)
 neg-same l m s = record { slope = neg-product (l .p) (m .d) (m .p) (l .d) (s .slope); intercept = neg-product (l .q) (m .d) (m .q) (l .d) (s .intercept) }
-
-un-product : (a b c e : ℤ) → negℤ a *ℤ b ≡ negℤ c *ℤ e → a *ℤ b ≡ c *ℤ e
-un-product a b c e = certify! (a ∷ b ∷ c ∷ e ∷ []) (search claims depth 40) (num 1) (eqn 0 (lit (negsuc 0))) tt
 
 pub un-same : (l m : Line) → SameLine (negL m) (negL l) → SameLine m l
 un-same l m s = record { slope = un-product (m .p) (l .d) (l .p) (m .d) (s .slope); intercept = un-product (m .q) (l .d) (l .q) (m .d) (s .intercept) }
@@ -139,8 +138,5 @@ neg-mean {l} {v} {w} {c} {α} {β} m =
     }
 
 -- ---- two numbers
-pub neg-< : (a b : ℤ) → a <ℤ b → negℤ b <ℤ negℤ a
-neg-< a b = certify! (a ∷ b ∷ []) (search claims depth 40) (num 1) (hyp 0) tt
-
 pub neg-<-flip : (a b : ℤ) → a <ℤ negℤ b → b <ℤ negℤ a
 neg-<-flip a b = certify! (a ∷ b ∷ []) (search claims depth 40) (num 1) (hyp 0) tt

@@ -11,7 +11,7 @@ use mathlib.Core.Logic.{inl, inr}
 use Prim.Native.Nat.{ℕ, zero, suc, _<_}
 use lib.IntN.{ℤ, pos, negsuc, negℤ, _-ℤ_, _*ℤ_}
 use lib.Signed.{_≤ℤ_, _<ℤ_}
-use Rattle.integers.specs.OrderLaws.{sub-pos, ≤ℤ-of-≡, ≤ℤ-<ℤ-⊥}
+use Rattle.integers.specs.OrderLaws.{sub-pos, ≤ℤ-of-≡, ≤ℤ-<ℤ-⊥, neg-<}
 use Rattle.integers.specs.RingSolver.{var, lit, _:*_}
 use Rattle.integers.specs.Certificates.{hyp, num, eqn, _⊞_, _⊠_}
 use Rattle.integers.specs.Solve.{claims, certify! }
@@ -21,7 +21,7 @@ use Rattle.definitions.specs.Lines.{Line}
 use Rattle.definitions.specs.Fit.{InFit}
 use Rattle.chains.specs.Signs.{negsuc<0, suc>0, diff-zero, diff-pos, diff-neg}
 use Rattle.chains.specs.Points.{Point, Touches, through, through-first, through-second}
-use Rattle.chains.specs.Mirror.{negP, negL, negP-negP, negR, through-neg, un-through, neg-<}
+use Rattle.chains.specs.Mirror.{negP, negL, negP-negP, negR, through-neg, un-through}
 use Rattle.chains.specs.Ends.{H, L, time<, on-value}
 use Rattle.chains.specs.Extremes.{TopThenBottom, BottomThenTop, bottom-top}
 use Rattle.chains.specs.Chain.{Chain, last, next, Polygon}
@@ -154,7 +154,7 @@ module _ (r s : Range) (lt : r .time < s .time) (r-ok : r .low ≤ℤ r .high) (
         up = chain-both (InFit (s ∷ r ∷ [])) (TopOf (s ∷ r ∷ [])) r s late HL HH LH (inl (inr refl)) (inr refl) i j;
         down =
             turned (negP (L r) ∷ negP (L s) ∷ [])
-            (chain-both (λ l. InFit (s ∷ r ∷ []) (negL l)) (λ A. BotOf (s ∷ r ∷ []) (negP A)) (negR r) (negR s) late (flip (L r) (H s) LH) (flip (L r) (L s) LL) (flip (H r) (L s) HL) (inl (inr (negP-negP (L r)))) (inr (negP-negP (L s))) (neg-< _ _ i) (neg-< _ _ j));
+            (chain-both (λ l. InFit (s ∷ r ∷ []) (negL l)) (λ A. BotOf (s ∷ r ∷ []) (negP A)) (negR r) (negR s) late (flip (L r) (H s) LH) (flip (L r) (L s) LL) (flip (H r) (L s) HL) (inl (inr (negP-negP (L r)))) (inr (negP-negP (L s))) (neg-< i) (neg-< j));
       })
 
   start-first : r .low ≡ r .high → s .low <ℤ s .high → RunState (s ∷ r ∷ []) (startWith (H r ∷ []) (L r ∷ []) r s)
@@ -166,7 +166,7 @@ module _ (r s : Range) (lt : r .time < s .time) (r-ok : r .low ≤ℤ r .high) (
         up = chain-first (InFit (s ∷ r ∷ [])) (TopOf (s ∷ r ∷ [])) r s late HL LH (inl (inr refl)) e j;
         down =
             turned (negP (L r) ∷ [])
-            (chain-first (λ l. InFit (s ∷ r ∷ []) (negL l)) (λ A. BotOf (s ∷ r ∷ []) (negP A)) (negR r) (negR s) late (flip (L r) (H s) LH) (flip (H r) (L s) HL) (inl (inr (negP-negP (L r)))) (ap negℤ (sym e)) (neg-< _ _ j));
+            (chain-first (λ l. InFit (s ∷ r ∷ []) (negL l)) (λ A. BotOf (s ∷ r ∷ []) (negP A)) (negR r) (negR s) late (flip (L r) (H s) LH) (flip (H r) (L s) HL) (inl (inr (negP-negP (L r)))) (ap negℤ (sym e)) (neg-< j));
       })
 
   start-second : r .low <ℤ r .high → s .low ≡ s .high → RunState (s ∷ r ∷ []) (startWith (H s ∷ []) (L s ∷ []) r s)
@@ -178,7 +178,7 @@ module _ (r s : Range) (lt : r .time < s .time) (r-ok : r .low ≤ℤ r .high) (
         up = chain-second (InFit (s ∷ r ∷ [])) (TopOf (s ∷ r ∷ [])) r s late HL LH (inr refl) i e;
         down =
             turned (negP (L s) ∷ [])
-            (chain-second (λ l. InFit (s ∷ r ∷ []) (negL l)) (λ A. BotOf (s ∷ r ∷ []) (negP A)) (negR r) (negR s) late (flip (L r) (H s) LH) (flip (H r) (L s) HL) (inr (negP-negP (L s))) (neg-< _ _ i) (ap negℤ (sym e)));
+            (chain-second (λ l. InFit (s ∷ r ∷ []) (negL l)) (λ A. BotOf (s ∷ r ∷ []) (negP A)) (negR r) (negR s) late (flip (L r) (H s) LH) (flip (H r) (L s) HL) (inr (negP-negP (L s))) (neg-< i) (ap negℤ (sym e)));
       })
 
   start-single : (us ls : List Point) → r .low ≡ r .high → s .low ≡ s .high → RunState (s ∷ r ∷ []) (startWith us ls r s)

@@ -1,4 +1,4 @@
--- The trial traces of the scope that are marked to be proved, and its report: one table, and one theorem that each case gives what is expected.
+-- The trial traces of the scope that are marked to be proved, its report and the cases of the requests: one table, and one theorem that each case gives what is expected.
 --
 --     table                  a call and its result, for each case
 --     table-holds            each call gives its result, by computation
@@ -16,18 +16,19 @@ use Rattle.integers.specs.Gcd.{euclid, gcd}
 use Rattle.integers.specs.LowestTerms.{commonDivisor}
 use Rattle.definitions.specs.Spans.{segmentRoom, cornerRoom, readRoom, writeRoom, panelRoom}
 use Rattle.definitions.specs.Times.{none, at}
+use Rattle.definitions.specs.Services.{Service, directionOf}
 use Rattle.definitions.specs.Ranges.{Range, Lists, zipRanges, rangesOf}
-use Rattle.definitions.specs.Lines.{Line, reading, fitsRange, fits, sideAt, notBelow, atOrAbove, through, throughEnds, candidatesFrom, candidates, hasLine}
+use Rattle.definitions.specs.Lines.{Line, reading, fitsRange, fits, sideAt, atOrAbove, atOrBelow, through, throughEnds, candidatesFrom, candidates, hasLine}
 use Rattle.definitions.specs.Corners.{reduced, before, side, between, betweenSome, fitting, extreme, cornerOrder, corners}
 use Rattle.definitions.specs.Splits.{cutFrom, cut, lastRun}
 use Rattle.definitions.specs.Segments.{segments, runningAfter}
-use Rattle.definitions.specs.Outlook.{someTime, allTime, Outlook, open-strip, lines, outlookOf, endTime, outlook}
+use Rattle.definitions.specs.Outlook.{passed, hasReached, someTime, allTime, Outlook, open-strip, lines, outlookOf, endTime, outlook}
 use Rattle.definitions.specs.Results.{Segment, segmentOf, segmentsOf, rowLength}
 use Rattle.definitions.specs.Answers.{Answer, refused, accepted, _>>=_, firstRow}
-use Rattle.definitions.specs.Trial.{outside, badAddress, notAbove, rangeRows, rangesRows, tooShort, differ, listRows, writeRows, segmentRows, cornerRows}
+use Rattle.definitions.specs.Trial.{outside, badAddress, badDirection, notAbove, rangeRows, rangesRows, tooShort, differ, listRows, writeRows, segmentRows, cornerRows}
 use Rattle.definitions.specs.FileNumbers.{word, bytes4, signed, unsigned}
-use Rattle.definitions.specs.FieldKinds.{field, fieldTag, fieldSize, fieldBody, fieldRest, fieldRows, takeField}
-use Rattle.definitions.specs.HeaderFields.{addressOf, addressBody, levelOf, addressKind, levelKind, readHeader, writeHeader}
+use Rattle.definitions.specs.FieldKinds.{field, fieldTag, fieldSize, fieldBody, fieldRest, fieldRows, takeField, optionalBy, optional, optionalField}
+use Rattle.definitions.specs.HeaderFields.{addressOf, addressBody, levelOf, directionIn, addressKind, levelKind, directionKind, readHeader, writeHeader}
 use Rattle.definitions.specs.TraceFile.{Trace, rangeOf, rangeForm, rangeKind, readFields, readFile, writeRanges, writeFile}
 use Rattle.definitions.specs.Calls.{Fit, bounded, fitOf, readCall, writeCall, segmentCall, cornersCall}
 use Rattle.definitions.specs.Previews.{longer, Effect, joins, begins, lastOutlook, effectOf, previewCall}
@@ -36,18 +37,18 @@ use Rattle.definitions.specs.Panels.{Panel, totalHeld, commonTaken, isAt
 use Rattle.definitions.specs.PanelCalls.{roomOf, panelRows, addRows, bumped, entriesAfter, putAt, added, addCall, headRangesCall}
 use Rattle.definitions.specs.declared.entries.Entry.{Entry}
 
--- Segment with a level and lists, Corners with k and lists, Read or the report with a file, Write with an address, a level and no ranges,
--- Add with a panel, an address and a range, Head ranges with a panel and an address, or Preview with a level, lists and a range; the slices to be filled are as
--- long as they must be
+-- Segment with a level, a direction and lists, Corners with k and lists, Read or the report with a file, Write with an address, a level, a direction and no
+-- ranges, Add with a panel, an address and a range, Head ranges with a panel and an address, or Preview with a level, a direction, lists and a range; the slices
+-- to be filled are as long as they must be
 pub data Call : Type 0 where
-  segment : ℤ → Lists → Call
+  segment : Service → Lists → Call
   cornersAfter : ℕ → Lists → Call
   read : List ℕ → Call
-  write : ℕ → ℤ → Call
+  write : ℕ → Service → Call
   print : List ℕ → Call
   add : Panel → ℕ → Range → Call
   rangesAt : Panel → ℕ → Call
-  preview : ℤ → Lists → Range → Call
+  preview : Service → Lists → Range → Call
 
 pub data Result : Type 0 where
   segmented : Answer (List Segment) → Result
@@ -60,14 +61,14 @@ pub data Result : Type 0 where
   seen : Answer Effect → Result
 
 pub run : Call → Result
-run (segment level ls) = segmented (segmentCall (replicate rowLength segmentRoom) (record { level = level }) ls)
+run (segment v ls) = segmented (segmentCall (replicate rowLength segmentRoom) v ls)
 run (cornersAfter k ls) = cornered (cornersCall (replicate 3 cornerRoom) k ls)
 run (read bs) = opened (readCall (replicate 3 readRoom) bs)
-run (write address level) = written (writeCall (writeRoom ∷ []) (record { address = address; service = record { level = level } }) (record { times = []; lows = []; highs = [] }))
+run (write address v) = written (writeCall (writeRoom ∷ []) (record { address = address; service = v }) (record { times = []; lows = []; highs = [] }))
 run (print bs) = printed (reportCall (reportRoom ∷ []) bs)
 run (add s a r) = tried (addCall s a r)
 run (rangesAt s a) = listed (headRangesCall (replicate 3 panelRoom) s a)
-run (preview level ls r) = seen (previewCall (record { level = level }) ls r)
+run (preview v ls r) = seen (previewCall v ls r)
 
 infix 85 _gives_
 pub data Case : Type 0 where
@@ -87,6 +88,13 @@ minus n = negℤ (pos n)
 abbrev line : ℤ → ℤ → ℤ → Line
 line p q d = record { p = p; q = q; d = d }
 
+-- what is looked for on a rising trace, and on a falling one
+abbrev rise : ℤ → Service
+rise u = record { level = u; direction = 0 }
+
+abbrev fall : ℤ → Service
+fall u = record { level = u; direction = 1 }
+
 abbrev trace : List ℕ → List ℤ → List ℤ → Lists
 trace ts us vs = record { times = ts; lows = us; highs = vs }
 
@@ -97,6 +105,10 @@ sample = trace (10 ∷ 20 ∷ 30 ∷ 40 ∷ 50 ∷ []) (pos 0 ∷ pos 4 ∷ pos 
 -- the first three ranges of the sample, upside down: a fit with two corners below the diagonal
 abbrev turned : Lists
 turned = trace (10 ∷ 20 ∷ 30 ∷ []) (minus 4 ∷ minus 8 ∷ minus 14 ∷ []) (pos 0 ∷ minus 4 ∷ minus 10 ∷ [])
+
+-- a beam head, whose signal falls: the sample with 40 − u for each value u, so that it is as far above the level 20 as the sample is below
+abbrev beam : Lists
+beam = trace (10 ∷ 20 ∷ 30 ∷ 40 ∷ 50 ∷ []) (pos 36 ∷ pos 32 ∷ pos 26 ∷ pos 29 ∷ pos 28 ∷ []) (pos 40 ∷ pos 36 ∷ pos 30 ∷ pos 31 ∷ pos 31 ∷ [])
 
 -- three ranges that are points, the last at u
 abbrev points : ℤ → Lists
@@ -114,6 +126,10 @@ level20 = 2 ∷ 0 ∷ 4 ∷ 0 ∷ 0 ∷ 0 ∷ 20 ∷ []
 abbrev header11 : List ℕ
 header11 = 1 ∷ 0 ∷ 1 ∷ 7 ∷ level20
 
+-- a field of tag 4 with one byte
+abbrev directionField : ℕ → List ℕ
+directionField d = 4 ∷ 0 ∷ 1 ∷ d ∷ []
+
 -- an address of two bytes and level 20, with no range
 abbrev header12 : ℕ → ℕ → List ℕ
 header12 a b = 1 ∷ 0 ∷ 2 ∷ a ∷ b ∷ level20
@@ -125,6 +141,10 @@ rangeField t u v = 3 ∷ 0 ∷ 12 ∷ 0 ∷ 0 ∷ 0 ∷ t ∷ 0 ∷ 0 ∷ 0 ∷ 
 -- the report's file of 86 bytes
 abbrev sampleFile : List ℕ
 sampleFile = header11 ++ rangeField 10 0 4 ++ rangeField 20 4 8 ++ rangeField 30 10 14 ++ rangeField 40 9 11 ++ rangeField 50 9 12
+
+-- that of the beam head, of 90 bytes
+abbrev beamFile : List ℕ
+beamFile = header11 ++ directionField 1 ++ rangeField 10 36 40 ++ rangeField 20 32 36 ++ rangeField 30 26 30 ++ rangeField 40 29 31 ++ rangeField 50 28 31
 
 abbrev entry : ℕ → ℕ → Entry
 entry a n = record { address = a; held = n }
@@ -180,7 +200,10 @@ abbrev part : ℕ → ℕ → ℕ → Outlook → Segment
 part a b n o = record { firstTime = a; lastTime = b; count = n; outlook = o }
 
 abbrev traceIs : ℕ → List Range → Result
-traceIs address rs = opened (accepted (record { head = record { address = address; service = record { level = pos 20 } }; ranges = rs }))
+traceIs address rs = opened (accepted (record { head = record { address = address; service = rise (pos 20) }; ranges = rs }))
+
+abbrev fallingIs : ℕ → List Range → Result
+fallingIs address rs = opened (accepted (record { head = record { address = address; service = fall (pos 20) }; ranges = rs }))
 
 abbrev bytesAre : List ℕ → Result
 bytesAre bytes = written (accepted bytes)
@@ -201,20 +224,20 @@ table =
     cornersAfter 3 sample gives fitIs (line (pos 3) (pos 10) (pos 10) ∷ line (pos 2) (pos 0) (pos 5) ∷ line (pos 3) (minus 20) (pos 5) ∷ line (pos 7) (minus 70) (pos 10) ∷ line (pos 1) (minus 10) (pos 2) ∷ [])
     ∷ cornersAfter 5 sample gives fitIs (line (minus 1) (pos 95) (pos 5) ∷ line (pos 1) (pos 70) (pos 10) ∷ line (pos 3) (minus 30) (pos 10) ∷ line (pos 0) (pos 9) (pos 1) ∷ [])
     ∷ cornersAfter 3 turned gives fitIs (line (minus 7) (pos 70) (pos 10) ∷ line (minus 1) (pos 10) (pos 2) ∷ line (minus 3) (minus 10) (pos 10) ∷ line (minus 2) (pos 0) (pos 5) ∷ line (minus 3) (pos 20) (pos 5) ∷ [])
-    ∷ segment (pos 20) sample gives segmentsAre
+    ∷ segment (rise (pos 20)) sample gives segmentsAre
     (part 10 30 3 (lines (line (pos 3) (pos 10) (pos 10)) (line (pos 7) (minus 70) (pos 10)) (at 39) (at 64))
     ∷ part 40 50 2 (lines (line (minus 1) (pos 95) (pos 5)) (line (pos 3) (minus 30) (pos 10)) (at 77) none)
     ∷ [])
     ∷ cornersAfter 3 (points (pos 2)) gives fitIs (line (pos 1) (pos 0) (pos 1) ∷ [])
-    ∷ segment (pos 1) (points (pos 3)) gives segmentsAre
+    ∷ segment (rise (pos 1)) (points (pos 3)) gives segmentsAre
     (part 0 1 2 (lines (line (pos 1) (pos 0) (pos 1)) (line (pos 1) (pos 0) (pos 1)) (at 1) (at 1))
     ∷ part 2 2 1 open-strip
     ∷ [])
-    ∷ segment (pos 20) (trace [] [] []) gives segmentsAre []
-    ∷ segment (pos 20) (trace (7 ∷ 7 ∷ []) (pos 0 ∷ pos 0 ∷ []) (pos 0 ∷ pos 0 ∷ [])) gives segmented (refused 6)
-    ∷ segment (pos 20) (one (pos 1) (pos 0)) gives segmented (refused 5)
-    ∷ segment (pos 20) (one (pos 0) (pos 268435456)) gives segmentsAre (part 0 0 1 open-strip ∷ [])
-    ∷ segment (pos 20) (one (pos 0) (pos 268435457)) gives segmented (refused 4)
+    ∷ segment (rise (pos 20)) (trace [] [] []) gives segmentsAre []
+    ∷ segment (rise (pos 20)) (trace (7 ∷ 7 ∷ []) (pos 0 ∷ pos 0 ∷ []) (pos 0 ∷ pos 0 ∷ [])) gives segmented (refused 6)
+    ∷ segment (rise (pos 20)) (one (pos 1) (pos 0)) gives segmented (refused 5)
+    ∷ segment (rise (pos 20)) (one (pos 0) (pos 268435456)) gives segmentsAre (part 0 0 1 open-strip ∷ [])
+    ∷ segment (rise (pos 20)) (one (pos 0) (pos 268435457)) gives segmented (refused 4)
     ∷ read [] gives opened (refused 1)
     ∷ read header11 gives traceIs 7 []
     ∷ read sampleFile gives traceIs 7 (rangesOf sample)
@@ -222,9 +245,9 @@ table =
     ∷ read (header12 255 255) gives traceIs 65535 []
     ∷ read (header12 0 255) gives opened (refused 4)
     ∷ read (1 ∷ 0 ∷ 3 ∷ 0 ∷ 1 ∷ 0 ∷ level20) gives opened (refused 3)
-    ∷ write 255 (pos 20) gives bytesAre (1 ∷ 0 ∷ 1 ∷ 255 ∷ level20)
-    ∷ write 256 (pos 20) gives bytesAre (header12 1 0)
-    ∷ write 65543 (pos 20) gives written (refused 4)
+    ∷ write 255 (rise (pos 20)) gives bytesAre (1 ∷ 0 ∷ 1 ∷ 255 ∷ level20)
+    ∷ write 256 (rise (pos 20)) gives bytesAre (header12 1 0)
+    ∷ write 65543 (rise (pos 20)) gives written (refused 4)
     ∷ cornersAfter 0 sample gives cornered (refused 9)
     ∷ print sampleFile gives textIs
     (ascii "detector 7 level 20 ranges 5 segments 2\n"
@@ -253,19 +276,51 @@ table =
     ∷ rangesAt (four sevenAndNine) 7 gives listed (accepted (range 10 (pos 0) (pos 4) ∷ range 20 (pos 0) (pos 4) ∷ []))
     ∷ rangesAt (four sevenAndNine) 8 gives listed (refused 12)
     ∷ rangesAt (four (entry 7 1 ∷ entry 9 3 ∷ [])) 7 gives listed (refused 14)
-    ∷ preview (pos 20) sample (range 60 (pos 13) (pos 16)) gives effectIs (joins (lines (line (pos 1) (pos 70) (pos 10)) (line (pos 3) (minus 30) (pos 10)) (at 77) (at 130)))
-    ∷ preview (pos 20) sample (range 60 (pos 16) (pos 18)) gives effectIs (begins open-strip)
-    ∷ preview (pos 20) (trace [] [] []) (range 0 (pos 0) (pos 4)) gives effectIs (begins open-strip)
-    ∷ preview (pos 9) (one (pos 0) (pos 0)) (range 4 (pos 2) (pos 2)) gives effectIs (joins (lines (line (pos 1) (pos 0) (pos 2)) (line (pos 1) (pos 0) (pos 2)) (at 18) (at 18)))
-    ∷ preview (pos 20) sample (range 50 (pos 13) (pos 16)) gives seen (refused 6)
-    ∷ preview (pos 20) (one (pos 1) (pos 0)) (range 0 (pos 0) (pos 4)) gives seen (refused 5)
-    ∷ preview (pos 268435457) (one (pos 1) (pos 0)) (range 0 (pos 0) (pos 4)) gives seen (refused 4)
-    ∷ preview (pos 20) (still 4095) (range 0 (pos 1) (pos 0)) gives seen (refused 6)
-    ∷ preview (pos 268435457) (still 4096) (range 0 (pos 1) (pos 0)) gives seen (refused 7)
-    ∷ preview (pos 20) (still 5000) (range 0 (pos 1) (pos 0)) gives seen (refused 7)
-    ∷ preview (pos 20) (trace (replicate 4096 0) (replicate 4095 (pos 0)) (replicate 4096 (pos 4))) (range 0 (pos 1) (pos 0)) gives seen (refused 10)
+    ∷ preview (rise (pos 20)) sample (range 60 (pos 13) (pos 16)) gives effectIs (joins (lines (line (pos 1) (pos 70) (pos 10)) (line (pos 3) (minus 30) (pos 10)) (at 77) (at 130)))
+    ∷ preview (rise (pos 20)) sample (range 60 (pos 16) (pos 18)) gives effectIs (begins open-strip)
+    ∷ preview (rise (pos 20)) (trace [] [] []) (range 0 (pos 0) (pos 4)) gives effectIs (begins open-strip)
+    ∷ preview (rise (pos 9)) (one (pos 0) (pos 0)) (range 4 (pos 2) (pos 2)) gives effectIs (joins (lines (line (pos 1) (pos 0) (pos 2)) (line (pos 1) (pos 0) (pos 2)) (at 18) (at 18)))
+    ∷ preview (rise (pos 20)) sample (range 50 (pos 13) (pos 16)) gives seen (refused 6)
+    ∷ preview (rise (pos 20)) (one (pos 1) (pos 0)) (range 0 (pos 0) (pos 4)) gives seen (refused 5)
+    ∷ preview (rise (pos 268435457)) (one (pos 1) (pos 0)) (range 0 (pos 0) (pos 4)) gives seen (refused 4)
+    ∷ preview (rise (pos 20)) (still 4095) (range 0 (pos 1) (pos 0)) gives seen (refused 6)
+    ∷ preview (rise (pos 268435457)) (still 4096) (range 0 (pos 1) (pos 0)) gives seen (refused 7)
+    ∷ preview (rise (pos 20)) (still 5000) (range 0 (pos 1) (pos 0)) gives seen (refused 7)
+    ∷ preview (rise (pos 20)) (trace (replicate 4096 0) (replicate 4095 (pos 0)) (replicate 4096 (pos 4))) (range 0 (pos 1) (pos 0)) gives seen (refused 10)
+    ∷ segment (fall (pos 20)) beam gives segmentsAre
+    (part 10 30 3 (lines (line (minus 7) (pos 470) (pos 10)) (line (minus 3) (pos 390) (pos 10)) (at 39) (at 64))
+    ∷ part 40 50 2 (lines (line (minus 3) (pos 430) (pos 10)) (line (pos 1) (pos 105) (pos 5)) (at 77) none)
+    ∷ [])
+    ∷ segment (fall (pos 0)) sample gives segmentsAre
+    (part 10 30 3 (lines (line (pos 3) (pos 10) (pos 10)) (line (pos 7) (minus 70) (pos 10)) none none)
+    ∷ part 40 50 2 (lines (line (minus 1) (pos 95) (pos 5)) (line (pos 3) (minus 30) (pos 10)) (at 95) none)
+    ∷ [])
+    ∷ segment (fall (pos 10)) sample gives segmentsAre
+    (part 10 30 3 (lines (line (pos 3) (pos 10) (pos 10)) (line (pos 7) (minus 70) (pos 10)) (at 30) none)
+    ∷ part 40 50 2 (lines (line (minus 1) (pos 95) (pos 5)) (line (pos 3) (minus 30) (pos 10)) (at 50) none)
+    ∷ [])
+    ∷ segment (record { level = pos 20; direction = 2 }) (one (pos 1) (pos 0)) gives segmented (refused 4)
+    ∷ segment (record { level = pos 20; direction = 256 }) (trace [] [] []) gives segmented (refused 4)
+    ∷ segment (record { level = pos 20; direction = 2 }) (still 4097) gives segmented (refused 7)
+    ∷ preview (fall (pos 20)) beam (range 60 (pos 24) (pos 27)) gives effectIs (joins (lines (line (minus 3) (pos 430) (pos 10)) (line (minus 1) (pos 330) (pos 10)) (at 77) (at 130)))
+    ∷ preview (record { level = pos 20; direction = 2 }) (one (pos 1) (pos 0)) (range 0 (pos 0) (pos 4)) gives seen (refused 4)
+    ∷ read (header11 ++ directionField 1) gives fallingIs 7 []
+    ∷ read beamFile gives fallingIs 7 (rangesOf beam)
+    ∷ read (header11 ++ directionField 0) gives opened (refused 4)
+    ∷ read (header11 ++ directionField 2) gives opened (refused 4)
+    ∷ read (header11 ++ (4 ∷ 0 ∷ 1 ∷ [])) gives opened (refused 1)
+    ∷ read (header11 ++ (4 ∷ 0 ∷ 2 ∷ 0 ∷ 1 ∷ [])) gives opened (refused 3)
+    ∷ read (header11 ++ directionField 1 ++ directionField 1) gives opened (refused 2)
+    ∷ read (header11 ++ rangeField 10 36 40 ++ directionField 1) gives opened (refused 2)
+    ∷ read (1 ∷ 0 ∷ 1 ∷ 7 ∷ directionField 1 ++ level20) gives opened (refused 2)
+    ∷ write 7 (fall (pos 20)) gives bytesAre (header11 ++ directionField 1)
+    ∷ write 7 (record { level = pos 20; direction = 2 }) gives written (refused 4)
+    ∷ print beamFile gives textIs
+    (ascii "detector 7 level 20 ranges 5 segments 2\n"
+    ++ ascii "segment 1 from 10 to 30 ranges 3 slow -7 470 10 fast -3 390 10 some 39 all 64\n"
+    ++ ascii "segment 2 from 40 to 50 ranges 2 slow -3 430 10 fast 1 105 5 some 77 all none\n")
     ∷ []
 
 pub table-holds : map (λ c. run (callOf c)) table ≡ map resultOf table
-unfolding table run callOf resultOf all any filter reading fitsRange fits sideAt notBelow atOrAbove through throughEnds candidatesFrom candidates hasLine euclid gcd commonDivisor reduced before side between betweenSome insert sorted fitting extreme getLastD cornerOrder corners cutFrom cut lastRun segments runningAfter scan firstByEnds first someTime allTime outlookOf endTime outlook segmentOf segmentsOf _>>=_ firstRow outside badAddress notAbove rangeRows rangesRows tooShort zipRanges rangesOf differ listRows writeRows segmentRows cornerRows word bytes4 signed unsigned field fieldTag fieldSize fieldBody fieldRest fieldRows takeField addressOf addressBody levelOf addressKind levelKind readHeader writeHeader rangeOf rangeForm rangeKind readFields readFile writeRanges writeFile fitOf readCall writeCall segmentCall cornersCall digitsWithin decimal signedDecimal timeText lineText outlookText spanText segmentLine segmentLines traceLine refusedLine traceText reportText report reportCall totalHeld commonTaken isAt either heldBy zipTaken taken onPanel kept headRanges lastTime countedIn occurrences twice outsideAddress miscounted badPanel notPanel unknown crowded roomOf panelRows addRows bumped entriesAfter putAt added addCall headRangesCall longer lastOutlook effectOf previewCall
+unfolding table run callOf resultOf all any filter reading fitsRange fits sideAt atOrAbove atOrBelow through throughEnds candidatesFrom candidates hasLine euclid gcd commonDivisor reduced before side between betweenSome insert sorted fitting extreme getLastD cornerOrder corners cutFrom cut lastRun segments runningAfter scan firstByEnds first directionOf passed hasReached someTime allTime outlookOf endTime outlook segmentOf segmentsOf _>>=_ firstRow outside badAddress badDirection notAbove rangeRows rangesRows tooShort zipRanges rangesOf differ listRows writeRows segmentRows cornerRows word bytes4 signed unsigned field fieldTag fieldSize fieldBody fieldRest fieldRows takeField optionalBy optional optionalField addressOf addressBody levelOf directionIn addressKind levelKind directionKind readHeader writeHeader rangeOf rangeForm rangeKind readFields readFile writeRanges writeFile fitOf readCall writeCall segmentCall cornersCall digitsWithin decimal signedDecimal timeText lineText outlookText spanText segmentLine segmentLines traceLine refusedLine traceText reportText report reportCall totalHeld commonTaken isAt either heldBy zipTaken taken onPanel kept headRanges lastTime countedIn occurrences twice outsideAddress miscounted badPanel notPanel unknown crowded roomOf panelRows addRows bumped entriesAfter putAt added addCall headRangesCall longer lastOutlook effectOf previewCall
 table-holds = refl

@@ -9,7 +9,9 @@
 --     StrictlyBetween        a mean of two other lines, both with a weight above 0
 --     Corner                 a line of the fit that is not strictly between two other lines of it
 --     InCornerOrder          least slope, above the diagonal by rising slope, greatest slope, below the diagonal by falling slope
---     Reaches, SomeReaches, AllReach   at or above a level at a time: a line, at least one line of the fit, every line
+--     Reaches                at or above a level at a time
+--     ReachedBy, Reached     the level is reached at a time: on a rising trace at or above it, on a falling one at or below
+--     SomeReached, AllReached   of at least one line of the fit, of every line
 --
 -- Assumes nothing.
 use mathlib.Core.Path.{_≡_}
@@ -20,7 +22,7 @@ use lib.ListN.{length}
 use lib.Signed.{_≤ℤ_, _<ℤ_}
 use Rattle.integers.specs.Lists.{All}
 use Rattle.definitions.specs.Ranges.{Range}
-use Rattle.definitions.specs.Services.{Service}
+use Rattle.definitions.specs.Services.{Direction, rising, falling, directionOf, Service}
 use Rattle.definitions.specs.Lines.{Line, reading}
 use Rattle.definitions.specs.Corners.{side}
 
@@ -119,10 +121,18 @@ pub data InCornerOrder : List Line → Type 0 where
 abbrev pub Reaches : ℤ → ℕ → Line → Type 0
 Reaches level t l = (l .d *ℤ level) ≤ℤ reading l t
 
-pub record SomeReaches (rs : List Range) (v : Service) (t : ℕ) : Type 0 where
+-- falling: p·t + q ≤ d·level
+abbrev pub ReachedBy : Direction → ℤ → ℕ → Line → Type 0
+ReachedBy rising level t l = Reaches level t l
+ReachedBy falling level t l = reading l t ≤ℤ (l .d *ℤ level)
+
+abbrev pub Reached : Service → ℕ → Line → Type 0
+Reached v t l = ReachedBy (directionOf (v .direction)) (v .level) t l
+
+pub record SomeReached (rs : List Range) (v : Service) (t : ℕ) : Type 0 where
   pub line : Line
   pub fit : InFit rs line
-  pub reaches : Reaches (v .level) t line
+  pub reached : Reached v t line
 
-abbrev pub AllReach : List Range → Service → ℕ → Type 0
-AllReach rs v t = (l : Line) → InFit rs l → Reaches (v .level) t l
+abbrev pub AllReached : List Range → Service → ℕ → Type 0
+AllReached rs v t = (l : Line) → InFit rs l → Reached v t l

@@ -4,7 +4,7 @@
 --     reading                d times that value
 --     fitsRange, fits        the line fits a range, each of some ranges
 --     Side, sideAt           the line is below, at or above a level at a time
---     atOrAbove              it is not below
+--     atOrAbove, atOrBelow   it is not below, it is not above
 --     through                the line through two points
 --     candidates             the lines through an end of one range and an end of a later one
 --     hasLine                some line fits each of the ranges
@@ -50,13 +50,15 @@ sideAt l level t =
       | false ↦ elim (ltZ (l .d *ℤ level) (reading l t)) [ true ↦ above | false ↦ on ]
     ]
 
-unfoldable pub notBelow : Side → Bool
-notBelow below = false
-notBelow on = true
-notBelow above = true
+unfoldable pub atOrAbove : Side → Bool
+atOrAbove below = false
+atOrAbove on = true
+atOrAbove above = true
 
-unfoldable pub atOrAbove : ℤ → ℕ → Line → Bool
-atOrAbove level t l = notBelow (sideAt l level t)
+unfoldable pub atOrBelow : Side → Bool
+atOrBelow below = true
+atOrBelow on = true
+atOrBelow above = false
 
 -- ---- through two points
 

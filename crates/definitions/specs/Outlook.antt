@@ -1,27 +1,36 @@
 -- The outlook of a segment.
 --
---     someTime, allTime      the scope's *some* and *all*: the first time from the segment's last on at which some line, every line is at or above the level
+--     passed, hasReached     a line has reached the level at a time: on a rising trace it is at or above the level, on a falling one at or below it
+--     someTime, allTime      the scope's *some* and *all*: the first time from the segment's last on at which some line, every line has reached the level
 --     Outlook, outlook       the scope's outlook: open, or the slow line, the fast line, *some* and *all*
 --
 -- The lines asked are the fitting ones through two ends; that this decides it for every line of the fit is a theorem of `lines`.
 -- Assumes nothing.
 use Prim.Native.Nat.{ℕ}
+use mathlib.Core.Bool.{Bool}
 use mathlib.Core.List.{List, [], _∷_, getLastD}
 use Rattle.integers.specs.Lists.{all, any}
 use Rattle.integers.specs.Least.{firstByEnds}
 use Rattle.definitions.specs.Spans.{mostTime}
 use Rattle.definitions.specs.Times.{Time}
-use Rattle.definitions.specs.Services.{Service}
+use Rattle.definitions.specs.Services.{Direction, rising, falling, directionOf, Service}
 use Rattle.definitions.specs.Ranges.{Range}
-use Rattle.definitions.specs.Lines.{Line, atOrAbove}
+use Rattle.definitions.specs.Lines.{Line, Side, sideAt, atOrAbove, atOrBelow}
 use Rattle.definitions.specs.Corners.{fitting}
+
+unfoldable pub passed : Direction → Side → Bool
+passed rising s = atOrAbove s
+passed falling s = atOrBelow s
+
+unfoldable pub hasReached : Service → ℕ → Line → Bool
+hasReached v t l = passed (directionOf (v .direction)) (sideAt l (v .level) t)
 
 -- Each test passes at an end of its span if it passes at all, and `firstByEnds` then computes also where the answer is none.
 unfoldable pub someTime : Service → ℕ → List Line → Time
-someTime v from ls = firstByEnds (λ t. any (atOrAbove (v .level) t) ls) from mostTime
+someTime v from ls = firstByEnds (λ t. any (hasReached v t) ls) from mostTime
 
 unfoldable pub allTime : Service → ℕ → List Line → Time
-allTime v from ls = firstByEnds (λ t. all (atOrAbove (v .level) t) ls) from mostTime
+allTime v from ls = firstByEnds (λ t. all (hasReached v t) ls) from mostTime
 
 pub data Outlook : Type 0 where
   open-strip : Outlook

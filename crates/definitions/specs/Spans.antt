@@ -4,6 +4,7 @@
 --     mostTime, noTime                 times run from 0 to 4,294,967,295; the number after that stands for a time that there is not
 --     mostRanges                       a trace has 0 to 4,096 ranges
 --     leastAddress, mostAddress        a detector's address
+--     mostDirection                    a direction is the number 0 or 1
 --     mostHeads                        a panel has 1 to 64 entries
 --     surePlaces, commonPlaces         each head is sure of 32 places; all heads share 2,048 more
 --     readRoom, writeRoom, segmentRoom, cornerRoom   the least length of each slice that a call fills
@@ -30,13 +31,16 @@ leastAddress = 1
 abbrev pub mostAddress : ℕ
 mostAddress = 65535
 
+abbrev pub mostDirection : ℕ
+mostDirection = 1
+
 -- Read: times, lows and highs
 abbrev pub readRoom : ℕ
 readRoom = mostRanges
 
 -- Write: the file's bytes, as many as the largest file has
 abbrev pub writeRoom : ℕ
-writeRoom = 61452
+writeRoom = 61456
 
 -- Segment: each of the eleven slices
 abbrev pub segmentRoom : ℕ

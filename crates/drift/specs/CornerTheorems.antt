@@ -4,7 +4,8 @@
 -- Where it gave the number n of corners
 --     given-segment              the segment running after k ranges is the front, up to range k, of the whole trace's segment that has range k
 --     given-corners              these lines are the corners of the segment running after k ranges, in the scope's list
---     given-count                and at most 2k
+--     given-about                what holds of the corners of any two or more ranges that have a line holds of these lines
+--     given-count                they are as many as that segment has corners, and at most 2k
 --     given-fit, given-mean      each fits that segment, and every line that fits it is a weighted mean of them
 --     given-exact                a line is among them exactly if it is a corner of the fit, in lowest terms
 --     given-ordered, given-once  they are in corner order, none twice
@@ -20,37 +21,31 @@
 -- Assumes nothing.
 use mathlib.Core.Path.{_≡_, refl, sym, ap, ap₂, _∙_, subst}
 use mathlib.Core.Logic.{_↔_}
-use mathlib.Core.Bool.{false}
-use mathlib.Core.List.{List, [], _∷_, _++_, map, flatten, dropLast, List·Nodup}
+use mathlib.Core.List.{List, [], _∷_, _++_, map, List·Nodup}
 use Prim.Native.Nat.{ℕ, _*_, _≤_}
 use native.Mathlib.Omega.{arith}
 use lib.IntN.{ℤ}
-use lib.ListN.{length, take, drop, length-map, length-append, take-append-drop}
-use lib.Seq.{take-at, drop-at, length-take-le}
+use lib.ListN.{length, take, drop, length-map}
+use lib.Seq.{take-at, drop-at}
 use Rattle.integers.specs.Lists.{All, In}
 use Rattle.integers.specs.LowestTerms.{InLowestTerms}
-use Rattle.definitions.specs.Spans.{mostRanges, cornerRoom}
 use Rattle.definitions.specs.Ranges.{Range, Lists, rangesOf}
-use Rattle.definitions.specs.Lines.{Line, hasLine}
+use Rattle.definitions.specs.Lines.{Line}
 use Rattle.definitions.specs.Corners.{corners}
 use Rattle.definitions.specs.Fit.{InFit, HasLine, Ordered, WeightedMean, Corner, InCornerOrder}
 use Rattle.definitions.specs.Splits.{GoodRun}
 use Rattle.definitions.specs.Segments.{segments, runningAfter}
-use Rattle.definitions.specs.Answers.{Answer, refused, accepted, filled}
-use Rattle.definitions.specs.Trial.{tooShort, cornerRows}
+use Rattle.definitions.specs.Answers.{Answer, refused, accepted, firstRow, filled}
+use Rattle.definitions.specs.Trial.{cornerRows}
 use Rattle.definitions.specs.Calls.{Fit, open-strip, bounded, fitOf, cornersCall}
-use Rattle.trial_laws.specs.RangeLists.{ranges-length}
-use Rattle.trial_laws.specs.Rows.{NoneHolds, first-row-accepted}
+use Rattle.trial_laws.specs.Rows.{first-row-accepted}
 use Rattle.trial_laws.specs.CallLaws.{call-accepted, bind-accepted, bind-refused}
-use Rattle.trial_laws.specs.Accepted.{AcceptedLists, corner-accepted}
 use Rattle.splits.specs.Runs.{FrontOf}
-use Rattle.splits.specs.Cutting.{cut-ends}
-use Rattle.splits.specs.OrderedRanges.{ordered-left, ordered-right}
-use Rattle.splits.specs.Segments.{running-front}
-use Rattle.lines.specs.Theorems.{corners-exact, corners-ordered, corners-once, corners-count, corners-fit, corners-mean, corners-by-diagonal, one-range-no-corner, running-has-line}
+use Rattle.lines.specs.Theorems.{corners-exact, corners-ordered, corners-once, corners-count, corners-fit, corners-mean, corners-by-diagonal, one-range-no-corner}
 use Rattle.lines.specs.Diagonal.{ByDiagonal}
 use Rattle.drift.specs.declared.CornersAnswer.{CornersAnswer}
 use Rattle.drift.specs.declared.CornersAnswer.the-variants.{Corners, Open, Refused}
+use Rattle.drift.specs.RunningSegment.{segment-front, running-ordered, running-short, running-good}
 use Rattle.drift.specs.CornersPromise.{unbounded, corner-count, countOf, cornersIn, cornersMeaning, threeLengths, CornersPromise}
 
 -- ---- what the slices give
@@ -69,43 +64,14 @@ unfolding zipLines
 zip-maps [] = refl
 zip-maps (k ∷ ks) = ap (λ ls. k ∷ ls) (zip-maps ks)
 
--- ---- where no row holds
+-- ---- the call
 
-module _ (ns : List ℕ) (k : ℕ) (ls : Lists) (fit : Fit) (e : cornersCall ns k ls ≡ accepted fit) where
-  abbrev running : List Range
-  running = runningAfter k (rangesOf ls)
-
-  answered : NoneHolds (cornerRows ns k ls) × (fitOf running ≡ fit)
-  unfolding cornersCall
-  answered = call-accepted (cornerRows ns k ls) (fitOf running) fit .0 e
-
-  proper : (tooShort cornerRoom ns ≡ false) × (1 ≤ k) × (k ≤ length (ls .times)) × AcceptedLists ls × (length (ls .times) ≤ mostRanges)
-  proper = corner-accepted ns k ls .0 (first-row-accepted (cornerRows ns k ls) .1 (answered .0))
-
-  order : Ordered (rangesOf ls)
-  order = proper .3 .ranges .ordered
-
-  within : k ≤ length (rangesOf ls)
-  within = omega (arith, proper .2, ranges-length ls (proper .3 .same))
-
-  segment-front : FrontOf k (segments (rangesOf ls)) running
-  segment-front = running-front k (rangesOf ls) (omega (arith, proper .1)) within
-
-  -- the segment running then ends the first k ranges
-  ends : flatten (dropLast (segments (take k (rangesOf ls)))) ++ running ≡ take k (rangesOf ls)
-  unfolding runningAfter segments
-  ends = cut-ends hasLine (take k (rangesOf ls)) (omega (arith, length-take-le k (rangesOf ls) within, proper .1))
-
-  running-ordered : Ordered running
-  running-ordered =
-      ordered-right (flatten (dropLast (segments (take k (rangesOf ls))))) running
-      (subst Ordered (sym ends) (ordered-left (take k (rangesOf ls)) (drop k (rangesOf ls)) (subst Ordered (sym (take-append-drop k (rangesOf ls))) order)))
-
-  running-short : length running ≤ k
-  running-short = omega (arith, length-append (flatten (dropLast (segments (take k (rangesOf ls))))) running, ap length ends, length-take-le k (rangesOf ls) within)
-
-  running-good : GoodRun HasLine running
-  running-good = running-has-line (rangesOf ls) order k (omega (arith, proper .1)) within
+answered : (ns : List ℕ) (k : ℕ) (ls : Lists) (fit : Fit) → cornersCall ns k ls ≡ accepted fit → (firstRow (cornerRows ns k ls) ≡ accepted tt) × (fitOf (runningAfter k (rangesOf ls)) ≡ fit)
+unfolding cornersCall
+answered ns k ls fit e =
+    let rows = cornerRows ns k ls in
+    let both = call-accepted rows (fitOf (runningAfter k (rangesOf ls))) fit .0 e in
+    (first-row-accepted rows .1 (both .0), both .1)
 
 -- ---- fits
 
@@ -154,8 +120,11 @@ module _ {k : ℕ} {ls : Lists} {ps qs ds ps′ qs′ ds′ : List ℤ} {n : ℕ
   unfolding cornersMeaning
   made = bind-accepted (cornersCall ns k ls) (λ fit. accepted (countOf fit)) (corner-count n) (sym (promise .answer-is))
 
+  passed : firstRow (cornerRows ns k ls) ≡ accepted tt
+  passed = answered ns k ls (made .0) (made .1) .0
+
   pub given-segment : FrontOf k (segments (rangesOf ls)) segment
-  given-segment = segment-front ns k ls (made .0) (made .1)
+  given-segment = segment-front ns k ls passed
 
   listed : (ks : List Line) × (made .0 ≡ bounded ks) × (n ≡ length ks)
   listed = counted (made .0) n (made .2)
@@ -187,36 +156,35 @@ module _ {k : ℕ} {ls : Lists} {ps qs ds ps′ qs′ ds′ : List ℤ} {n : ℕ
       ∙ zip-maps (listed .0)
       ∙ two .corners-are
 
-  -- what holds of the corners of two or more ranges with a line holds of the lines given
-  about : (P : List Range → List Line → Type 0) → ((r s : Range) (ws : List Range) → Ordered (r ∷ s ∷ ws) → HasLine (r ∷ s ∷ ws) → P (r ∷ s ∷ ws) (corners (r ∷ s ∷ ws))) → P segment lines
-  about P h =
+  pub given-about : (P : List Range → List Line → Type 0) → ((r s : Range) (ws : List Range) → Ordered (r ∷ s ∷ ws) → HasLine (r ∷ s ∷ ws) → P (r ∷ s ∷ ws) (corners (r ∷ s ∷ ws))) → P segment lines
+  given-about P h =
       subst (P segment) (sym given-corners)
       (subst (λ rs. P rs (corners rs)) (sym (two .is))
-      (h (two .first) (two .second) (two .more) (subst Ordered (two .is) (running-ordered ns k ls (made .0) (made .1))) (subst (GoodRun HasLine) (two .is) (running-good ns k ls (made .0) (made .1)))))
+      (h (two .first) (two .second) (two .more) (subst Ordered (two .is) (running-ordered ns k ls passed)) (subst (GoodRun HasLine) (two .is) (running-good ns k ls passed))))
 
   pub given-count : (n ≡ length (corners segment)) × (n ≤ 2 * k)
   given-count =
       let m : n ≡ length (corners segment) = listed .2 ∙ ap length (two .corners-are) in
-      let most = about (λ rs ks. length ks ≤ 2 * length rs) (λ r s ws o h. corners-count r s ws o h) in
-      (m, omega (arith, m, ap length given-corners, most, running-short ns k ls (made .0) (made .1)))
+      let most = given-about (λ rs ks. length ks ≤ 2 * length rs) (λ r s ws o h. corners-count r s ws o h) in
+      (m, omega (arith, m, ap length given-corners, most, running-short ns k ls passed))
 
   pub given-fit : All (InFit segment) lines
-  given-fit = about (λ rs ks. All (InFit rs) ks) (λ r s ws o h. corners-fit r s ws o h)
+  given-fit = given-about (λ rs ks. All (InFit rs) ks) (λ r s ws o h. corners-fit r s ws o h)
 
   pub given-mean : (l : Line) → InFit segment l → WeightedMean lines l
-  given-mean = about (λ rs ks. (l : Line) → InFit rs l → WeightedMean ks l) (λ r s ws o h. corners-mean r s ws o h)
+  given-mean = given-about (λ rs ks. (l : Line) → InFit rs l → WeightedMean ks l) (λ r s ws o h. corners-mean r s ws o h)
 
   pub given-exact : (l : Line) → In l lines ↔ (Corner segment l × InLowestTerms (l .p) (l .q) (l .d))
-  given-exact = about (λ rs ks. (l : Line) → In l ks ↔ (Corner rs l × InLowestTerms (l .p) (l .q) (l .d))) (λ r s ws o h. corners-exact r s ws o h)
+  given-exact = given-about (λ rs ks. (l : Line) → In l ks ↔ (Corner rs l × InLowestTerms (l .p) (l .q) (l .d))) (λ r s ws o h. corners-exact r s ws o h)
 
   pub given-ordered : InCornerOrder lines
-  given-ordered = about (λ rs ks. InCornerOrder ks) (λ r s ws o h. corners-ordered r s ws o h)
+  given-ordered = given-about (λ rs ks. InCornerOrder ks) (λ r s ws o h. corners-ordered r s ws o h)
 
   pub given-by-diagonal : ByDiagonal lines
-  given-by-diagonal = about (λ rs ks. ByDiagonal ks) (λ r s ws o h. corners-by-diagonal r s ws o h)
+  given-by-diagonal = given-about (λ rs ks. ByDiagonal ks) (λ r s ws o h. corners-by-diagonal r s ws o h)
 
   pub given-once : List·Nodup lines
-  given-once = about (λ rs ks. List·Nodup ks) (λ r s ws o h. corners-once r s ws o h)
+  given-once = given-about (λ rs ks. List·Nodup ks) (λ r s ws o h. corners-once r s ws o h)
 
   pub given-past : (drop n ps′ ≡ drop n ps) × (drop n qs′ ≡ drop n qs) × (drop n ds′ ≡ drop n ds)
   given-past = (later-entries (λ l. l .p) ps ps′ (promise .ps-are), later-entries (λ l. l .q) qs qs′ (promise .qs-are), later-entries (λ l. l .d) ds ds′ (promise .ds-are))
@@ -245,13 +213,14 @@ module _ {k : ℕ} {ls : Lists} {ps qs ds ps′ qs′ ds′ : List ℤ} (promise
       let b = bind-accepted (cornersCall (threeLengths ps qs ds) k ls) (λ fit. accepted (countOf fit)) unbounded (sym (promise .answer-is)) in
       b .1 ∙ ap accepted (uncounted (b .0) (b .2))
 
+  none-held : (firstRow (cornerRows (threeLengths ps qs ds) k ls) ≡ accepted tt) × (fitOf (runningAfter k (rangesOf ls)) ≡ open-strip)
+  none-held = answered (threeLengths ps qs ds) k ls open-strip found-open
+
   pub open-segment : FrontOf k (segments (rangesOf ls)) (runningAfter k (rangesOf ls))
-  open-segment = segment-front (threeLengths ps qs ds) k ls open-strip found-open
+  open-segment = segment-front (threeLengths ps qs ds) k ls (none-held .0)
 
   pub open-one : length (runningAfter k (rangesOf ls)) ≡ 1
-  open-one =
-      let lengths = threeLengths ps qs ds in
-      fit-one (runningAfter k (rangesOf ls)) (running-good lengths k ls open-strip found-open) (answered lengths k ls open-strip found-open .1)
+  open-one = fit-one (runningAfter k (rangesOf ls)) (running-good (threeLengths ps qs ds) k ls (none-held .0)) (none-held .1)
 
   pub open-none : (l : Line) → Corner (runningAfter k (rangesOf ls)) l → ⊥
   open-none = one-none (runningAfter k (rangesOf ls)) open-one

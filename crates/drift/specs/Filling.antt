@@ -10,7 +10,6 @@
 -- Assumes nothing.
 use Prim.Native.Nat.{ℕ, _+_, _≤_, _<_}
 use mathlib.Core.Path.{_≡_}
-use mathlib.Core.Bool.{false}
 use mathlib.Core.List.{List, [], _∷_}
 use native.Mathlib.Omega.{arith}
 use lib.IntN.{ℤ}
@@ -19,13 +18,12 @@ use Rattle.definitions.specs.Spans.{mostRanges}
 use Rattle.definitions.specs.Services.{Service}
 use Rattle.definitions.specs.Ranges.{Lists, zipRanges, rangesOf}
 use Rattle.definitions.specs.Results.{Segment, segmentsOf}
-use Rattle.definitions.specs.Trial.{outside}
-use Rattle.trial_laws.specs.Accepted.{AcceptedLists}
+use Rattle.trial_laws.specs.Accepted.{GoodService, AcceptedLists}
 use Rattle.drift_laws.specs.ChainParts.{Chain, Long}
 use Rattle.drift.specs.Columns.{Columns, Room, FirstStored}
 
 pub record Tried (v : Service) (ls : Lists) : Type 0 where
-  pub level-inside : outside (v .level) ≡ false
+  pub good : GoodService v
   pub lists-accepted : AcceptedLists ls
   pub few : length (ls .times) ≤ mostRanges
 

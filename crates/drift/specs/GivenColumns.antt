@@ -1,6 +1,6 @@
 -- What the slices hold where Segment accepted.
 --
---     called, taken, taken-few, ordered   the call's result, that the lists are acceptable and at most 4,096 ranges, and that their times rise
+--     called, taken-good, taken, taken-few, ordered   the call's result, that the service is good, that the lists are acceptable and have at most 4,096 ranges, and that their times rise
 --     count-is               the number that Segment gave is the number of segments
 --     column-room, column-at a column has an entry for each segment: its number of that segment
 --     rows-room, row-at      there is a row for each segment: its numbers
@@ -21,7 +21,7 @@ use Rattle.definitions.specs.Trial.{segmentRows}
 use Rattle.definitions.specs.Calls.{segmentCall}
 use Rattle.trial_laws.specs.Rows.{first-row-accepted}
 use Rattle.trial_laws.specs.CallLaws.{both-accepted, call-accepted, accepted-is}
-use Rattle.trial_laws.specs.Accepted.{AcceptedLists, segment-accepted}
+use Rattle.trial_laws.specs.Accepted.{GoodService, AcceptedLists, segment-accepted}
 use Rattle.drift.specs.declared.SegmentAnswer.the-variants.{Accepted}
 use Rattle.drift.specs.Columns.{Columns, each, each-apply, lengths, rowAt, row-is, Room}
 use Rattle.drift.specs.SegmentPromise.{segmentMeaning, SegmentPromise}
@@ -49,6 +49,9 @@ module _ {v : Service} {ls : Lists} {old new : Columns} {n : ℕ} (promise : Seg
   pub called : segmentCall (lengths old) v ls ≡ accepted (segmentsOf v rs)
   unfolding segmentCall _>>=_
   called = ap (λ a. a >>= λ ok. accepted (segmentsOf v rs)) no-row
+
+  pub taken-good : GoodService v
+  taken-good = segment-accepted (lengths old) v ls .0 no-row .1
 
   pub taken : AcceptedLists ls
   taken = segment-accepted (lengths old) v ls .0 no-row .2

@@ -1,6 +1,9 @@
 pub mod CornersPromise
 pub mod CornersPromiseLaws
+pub mod RunningSegment
 pub mod CornerTheorems
+pub mod MirroredCalls
+pub mod Mirror
 pub mod Columns
 pub mod ColumnLaws
 pub mod SegmentPromise

@@ -13,7 +13,6 @@ use native.Mathlib.Nat.{le-refl, eq-or-lt-of-le}
 use native.Mathlib.Omega.{arith}
 use lib.ListN.{length, drop, length-take, length-drop, drop-of-length-le}
 use Rattle.definitions.specs.Services.{Service}
-use Rattle.definitions.specs.Spans.{mostTime}
 use Rattle.definitions.specs.Ranges.{Range, Lists, rangesOf}
 use Rattle.definitions.specs.Fit.{HasLine, Ordered}
 use Rattle.definitions.specs.Splits.{cut, GoodRun}
@@ -21,7 +20,7 @@ use Rattle.definitions.specs.Segments.{segments}
 use Rattle.definitions.specs.Outlook.{Outlook, open-strip, outlook, endTime}
 use Rattle.definitions.specs.Results.{Segment, segmentOf, segmentsOf}
 use Rattle.trial_laws.specs.RangeLists.{rangeAt, ranges-length, ranges-drop}
-use Rattle.trial_laws.specs.Accepted.{AcceptedLists}
+use Rattle.trial_laws.specs.Accepted.{GoodService, AcceptedLists}
 use Rattle.splits.specs.Greedy.{cut-one-run, cut-first-run}
 use Rattle.lines.specs.Polygon.{decides}
 use Rattle.drift_laws.specs.ChainParts.{Chain}
@@ -92,10 +91,10 @@ module _ {ls : Lists} (a : AcceptedLists ls) {i : ℕ} {up down : Chain} {r : Re
       (ap (λ k. segmentOf v (run ls i k)) e ∙ ap (segmentOf v) (run-one ls a i (omega arith)) ∙ λ j. record { firstTime = rangeAt ls i .time; lastTime = rangeAt ls (sym last j) .time; count = sym one j; outlook = open-strip })
       refl
 
-  pub next-lines : i + 2 ≤ r .end → rangeAt ls (r .end - 1) .time ≤ mostTime
+  pub next-lines : GoodService v → i + 2 ≤ r .end
       → NextSegment v ls i (foundAt ls i (r .end) (lookAhead (lineOf (r .polygon .slow)) (lineOf (r .polygon .fast)) v (rangeAt ls (r .end - 1) .time)))
   unfolding segmentOf endTime
-  next-lines h late =
+  next-lines good h =
       let run-is = run-two ls a i (r .end) h (f .within) in
       let n : length (run ls i (r .end)) ≡ r .end - i = run-long ls a i (r .end) (f .begins) (f .within) in
       next-is ls a i (r .end) (f .begins) (f .within) (f .line) (f .closed) v _
@@ -104,6 +103,6 @@ module _ {ls : Lists} (a : AcceptedLists ls) {i : ℕ} {up down : Chain} {r : Re
         firstTime = rangeAt ls i .time;
         lastTime = run-last a (le-refl _) f h j;
         count = (ap length (sym run-is) ∙ n) j;
-        outlook = (ap (outlook v) (sym run-is) ∙ run-outlook a (le-refl _) f h late v) j;
+        outlook = (ap (outlook v) (sym run-is) ∙ run-outlook a (le-refl _) f h v good) j;
       })
       refl

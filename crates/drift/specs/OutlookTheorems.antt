@@ -4,7 +4,8 @@
 --     LastEightZero row                the last eight numbers of the row are 0
 --     slowOf, fastOf                   the lines whose p, q and d are in the row
 --     LinesTold v run row              these lines are in lowest terms, fit the run, and have the least and the greatest slope of its whole fit; the last two numbers are the least times,
---                                      from the row's last time to 4,294,967,295, at which at least one line and every line of the fit reaches the level, and 4,294,967,296 stands for none
+--                                      from the row's last time to 4,294,967,295, at which at least one line and every line of the fit is at or above the level
+--                                      on a rising trace, at or below it on a falling one; 4,294,967,296 stands for none
 --     OutlookTold v run row            the run has one range and the last eight numbers are 0, or it has two or more and the row tells its lines and times
 --     NeverFrom from P                 P holds at no time from `from` to 4,294,967,295
 --     given-length                     the j-th count is the number of ranges of the j-th run
@@ -24,12 +25,12 @@ use lib.IntN.{pos}
 use lib.ListN.{length, getD}
 use lib.Signed.{_<ℤ_, <ℤ-irrefl}
 use Rattle.integers.specs.Least.{IsLeast, nowhere, least-at}
-use Rattle.definitions.specs.Spans.{mostTime, noTime}
+use Rattle.definitions.specs.Spans.{mostTime, noTime, mostDirection}
 use Rattle.definitions.specs.Services.{Service}
 use Rattle.definitions.specs.Times.{Time, none, at}
 use Rattle.definitions.specs.Ranges.{Range, Lists, rangesOf}
 use Rattle.definitions.specs.Lines.{Line}
-use Rattle.definitions.specs.Fit.{HasLine, Ordered, SomeReaches, AllReach}
+use Rattle.definitions.specs.Fit.{HasLine, Ordered, SomeReached, AllReached}
 use Rattle.definitions.specs.Splits.{GoodRun}
 use Rattle.definitions.specs.Segments.{segments}
 use Rattle.definitions.specs.Outlook.{outlook, endTime}
@@ -42,7 +43,7 @@ use Rattle.lines.specs.Theorems.{segments-split}
 use Rattle.drift.specs.declared.SegmentAnswer.the-variants.{Accepted}
 use Rattle.drift.specs.Columns.{Columns, rowAt}
 use Rattle.drift.specs.SegmentPromise.{SegmentPromise}
-use Rattle.drift.specs.GivenColumns.{ordered, row-at}
+use Rattle.drift.specs.GivenColumns.{taken-good, ordered, row-at}
 use Rattle.drift.specs.Demand3.{givenRun, given-count, run-given}
 
 -- ---- what a row tells
@@ -84,12 +85,12 @@ unfolding numbersOf segmentOf
 run-length v [] = refl
 run-length v (r ∷ rs) = refl
 
-run-told : (v : Service) (run : List Range) → Ordered run → GoodRun HasLine run → OutlookTold v run (numbersOf (segmentOf v run))
+run-told : (v : Service) → v .direction ≤ mostDirection → (run : List Range) → Ordered run → GoodRun HasLine run → OutlookTold v run (numbersOf (segmentOf v run))
 unfolding segmentOf numbersOf outlook slowLine fastLine someNumber allNumber endTime
-run-told v [] o g = absurd g
-run-told v (r ∷ []) o g = open-told refl (record { slow-p = refl; slow-q = refl; slow-d = refl; fast-p = refl; fast-q = refl; fast-d = refl; some-0 = refl; all-0 = refl })
-run-told v (r ∷ s ∷ ws) o g =
-    let (k, l, x, y, e, means) = outlook-means r s ws o g v in
+run-told v known [] o g = absurd g
+run-told v known (r ∷ []) o g = open-told refl (record { slow-p = refl; slow-q = refl; slow-d = refl; fast-p = refl; fast-q = refl; fast-d = refl; some-0 = refl; all-0 = refl })
+run-told v known (r ∷ s ∷ ws) o g =
+    let (k, l, x, y, e, means) = outlook-means r s ws o g v known in
     lines-told (omega arith)
     (subst (λ z. LinesTold v (r ∷ s ∷ ws) (numbersOf (record { firstTime = r .time; lastTime = endTime s ws; count = length (r ∷ s ∷ ws); outlook = z }))) (sym e)
     (record { someTime = x; allTime = y; some-number = refl; all-number = refl; means = means }))
@@ -120,7 +121,7 @@ module _ {v : Service} {ls : Lists} {old new : Columns} {n : ℕ} (promise : Seg
       let split = segments-split (rangesOf ls) (ordered promise) in
       let inner = ordered-at (segments (rangesOf ls)) (subst Ordered (sym (split .whole)) (ordered promise)) j in
       let good = split-run-good split j (omega (arith, given-count promise)) in
-      subst (λ rs. OutlookTold v rs (rowAt new j)) (sym (run-given promise j h)) (subst (OutlookTold v segment) (sym row-given) (run-told v segment inner good))
+      subst (λ rs. OutlookTold v rs (rowAt new j)) (sym (run-given promise j h)) (subst (OutlookTold v segment) (sym row-given) (run-told v (taken-good promise .direction-in) segment inner good))
 
   pub given-open : (getD (new .counts) j 0 ≡ 1) ↔ LastEightZero (rowAt new j)
   given-open = (zeros given-outlook, one given-outlook)
@@ -141,10 +142,10 @@ module _ {v : Service} {ls : Lists} {old new : Columns} {n : ℕ} (promise : Seg
         by (open-told e z) = absurd (omega (arith, given-length))
         by (lines-told more t) = t
 
-    pub given-some-none : (getD (new .somes) j 0 ≡ noTime) ↔ NeverFrom (getD (new .lastTimes) j 0) (SomeReaches run v)
+    pub given-some-none : (getD (new .somes) j 0 ≡ noTime) ↔ NeverFrom (getD (new .lastTimes) j 0) (SomeReached run v)
     unfolding rowAt
-    given-some-none = let t = given-lines in subst (λ x. (x ≡ noTime) ↔ NeverFrom (getD (new .lastTimes) j 0) (SomeReaches run v)) (sym (t .some-number)) (none-iff (t .someTime) (t .means .some-is))
+    given-some-none = let t = given-lines in subst (λ x. (x ≡ noTime) ↔ NeverFrom (getD (new .lastTimes) j 0) (SomeReached run v)) (sym (t .some-number)) (none-iff (t .someTime) (t .means .some-is))
 
-    pub given-all-none : (getD (new .alls) j 0 ≡ noTime) ↔ NeverFrom (getD (new .lastTimes) j 0) (AllReach run v)
+    pub given-all-none : (getD (new .alls) j 0 ≡ noTime) ↔ NeverFrom (getD (new .lastTimes) j 0) (AllReached run v)
     unfolding rowAt
-    given-all-none = let t = given-lines in subst (λ x. (x ≡ noTime) ↔ NeverFrom (getD (new .lastTimes) j 0) (AllReach run v)) (sym (t .all-number)) (none-iff (t .allTime) (t .means .all-is))
+    given-all-none = let t = given-lines in subst (λ x. (x ≡ noTime) ↔ NeverFrom (getD (new .lastTimes) j 0) (AllReached run v)) (sym (t .all-number)) (none-iff (t .allTime) (t .means .all-is))

@@ -27,8 +27,7 @@ use mir.Facts.{toZ-ofZ, toZ-pos}
 use Rattle.integers.specs.Parts.{ints}
 use Rattle.integers.specs.Solve.{_&_, linear-from!, claims}
 use Rattle.integers.specs.Bounds.{Within, in-nonneg, in-of, in-neg, fits}
-use Rattle.integers.specs.Machine.{Env, _▹_, end, upto, machine-value!, reads}
-use Rattle.integers.specs.Quotes.{quotes}
+use Rattle.integers.specs.Machine.{Env, _▹_, end, upto, negated-is}
 use Rattle.definitions.specs.Spans.{mostValue, mostTime}
 use Rattle.drift_laws.specs.RangeEnds.{inMirror}
 
@@ -81,21 +80,11 @@ module _ {x : ℤ} (h : Within mostValue x) where
   pub narrow-in : Within mostValue (toZ w32 (ofZ w32 x))
   narrow-in = subst (Within mostValue) (sym narrow-is) h
 
-  negated-is : rd (pos 0 -ℤ rd (toZ w32 (ofZ w32 x))) ≡ negℤ x
-  negated-is =
-      let e : rd (pos 0 -ℤ rd (toZ w32 (ofZ w32 x))) ≡ negℤ (toZ w32 (ofZ w32 x)) = machine-value! (narrow-in ▹ end) (search reads depth 30) (search quotes depth 30) tt in
-      e ∙ ap negℤ narrow-is
-
-  plain-is : rd (toZ w32 (ofZ w32 x)) ≡ x
-  plain-is =
-      let e : rd (toZ w32 (ofZ w32 x)) ≡ toZ w32 (ofZ w32 x) = machine-value! (narrow-in ▹ end) (search reads depth 30) (search quotes depth 30) tt in
-      e ∙ narrow-is
-
   pub value-mirrored : {flip : Bool} → flip ≡ true → rd (pos 0 -ℤ rd (toZ w32 (ofZ w32 x))) ≡ inMirror flip x
-  value-mirrored e = negated-is ∙ ap (λ f. inMirror f x) (sym e)
+  value-mirrored e = negated-is w64 narrow-in tt ∙ ap negℤ narrow-is ∙ ap (λ f. inMirror f x) (sym e)
 
   pub value-plain : {flip : Bool} → flip ≡ false → rd (toZ w32 (ofZ w32 x)) ≡ inMirror flip x
-  value-plain e = plain-is ∙ ap (λ f. inMirror f x) (sym e)
+  value-plain e = toZ-ofZ (fits narrow-in tt) ∙ narrow-is ∙ ap (λ f. inMirror f x) (sym e)
 
 pub mirror-in : (flip : Bool) {u : ℤ} → Within mostValue u → Within mostValue (inMirror flip u)
 mirror-in true h = in-neg h

@@ -1,7 +1,7 @@
 -- The outlook of a run that code found, by the two lines of its polygon.
 --
 --     run-last           the last time of a run of two or more ranges
---     run-outlook        its outlook: the polygon's two lines in lowest terms, and when each reaches the level
+--     run-outlook        its outlook: the polygon's two lines in lowest terms, and when each reaches the level, for a service that is not refused
 --
 -- Assumes nothing.
 use mathlib.Core.Path.{_≡_, sym, ap, ap₂, _∙_, subst}
@@ -10,16 +10,13 @@ use Prim.Native.Nat.{ℕ, _+_, _-_, _≤_}
 use native.Mathlib.Omega.{arith}
 use lib.ListN.{length}
 use Rattle.definitions.specs.Services.{Service}
-use Rattle.definitions.specs.Spans.{mostTime}
 use Rattle.definitions.specs.Ranges.{Lists}
-use Rattle.definitions.specs.Corners.{reduced}
 use Rattle.definitions.specs.Fit.{HasLine, Ordered}
-use Rattle.definitions.specs.Outlook.{lines, outlook, endTime}
+use Rattle.definitions.specs.Outlook.{outlook, endTime}
 use Rattle.trial_laws.specs.RangeLists.{rangeAt}
-use Rattle.trial_laws.specs.Accepted.{AcceptedLists}
+use Rattle.trial_laws.specs.Accepted.{GoodService, AcceptedLists}
 use Rattle.splits.specs.OrderedRanges.{lastTimeOf, last-append}
 use Rattle.chains.specs.Results.{slow, fast}
-use Rattle.lines.specs.OutlookTimes.{reachTime}
 use Rattle.lines.specs.RunOutlook.{outlook-by-lines}
 use Rattle.drift_laws.specs.ChainParts.{Chain}
 use Rattle.drift_laws.specs.RunsByPlace.{run, run-two, run-more, run-ordered}
@@ -40,9 +37,9 @@ module _ {ls : Lists} (a : AcceptedLists ls) {i n : ℕ} (upto : n ≤ length (l
       let m : k + 1 ≡ r .end = omega arith in
       ap lastTimeOf (sym run-is ∙ ap (run ls i) (sym m) ∙ run-more ls a i k (omega arith) (omega arith)) ∙ last-append (run ls i k) (rangeAt ls k) []
 
-  pub run-outlook : rangeAt ls (r .end - 1) .time ≤ mostTime → (v : Service)
+  pub run-outlook : (v : Service) → GoodService v
       → outlook v (run ls i (r .end)) ≡ lookAhead (lineOf (r .polygon .slow)) (lineOf (r .polygon .fast)) v (rangeAt ls (r .end - 1) .time)
-  run-outlook late v =
+  run-outlook v good =
       let z = f .polygon-is two in
       let s = rangeAt ls i in
       let t = rangeAt ls (i + 1) in
@@ -51,6 +48,6 @@ module _ {ls : Lists} (a : AcceptedLists ls) {i n : ℕ} (upto : n ≤ length (l
       let k = slow s t ws in
       let l = fast s t ws in
       ap (outlook v) run-is
-      ∙ outlook-by-lines s t ws (subst Ordered run-is (run-ordered ls a i (r .end))) (subst HasLine run-is (f .line)) (subst (λ x. x ≤ mostTime) (sym run-last) late) v
-      ∙ ap (λ x. lines (reduced k) (reduced l) (reachTime v x l) (reachTime v x k)) run-last
+      ∙ outlook-by-lines s t ws (subst Ordered run-is (run-ordered ls a i (r .end))) (subst HasLine run-is (f .line)) v (good .direction-in)
+      ∙ ap (lookAhead k l v) run-last
       ∙ ap₂ (λ x y. lookAhead x y v last) (sym (z .slow-is)) (sym (z .fast-is))

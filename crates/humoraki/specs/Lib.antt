@@ -6,3 +6,4 @@ pub mod PreviewNumbers
 pub mod PreviewAgreement
 pub mod PanelAnswers
 pub mod Refusals
+pub mod Mirror

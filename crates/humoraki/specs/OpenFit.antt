@@ -1,7 +1,8 @@
--- The library tells an open fit by the count 0. These hold after success of Corners:
+-- The library tells an open fit by the count 0. With after : AfterCorners k ls old new number, and the number 0:
 --
 --     answerOf, promise-below   what the library leaves is what the call below leaves with this answer, so drift's CornerTheorems are about it too
---     open-iff                  the count is 0 exactly if the fit is open
+--     fit-found, count-found    the fit that Corners found; the count is that of its corners
+--     open-iff                  so the count is 0 exactly if the fit is open
 --     one-range-iff             and exactly if the segment then running has one range
 --
 -- Assumes nothing.
@@ -50,20 +51,13 @@ one-open (r ∷ s ∷ rs) e = absurd (omega arith)
 never-open : {A : Type 0} (ks : List Line) → open-strip ≡ bounded ks → A
 never-open ks e = let z : _≡_ {A = ℕ} 0 1 = cc in absurd (omega arith)
 
-module _ {k : ℕ} {ls : Lists} {old new : CornersLent} (after : AfterCorners k ls old new 0) where
+module _ {k : ℕ} {ls : Lists} {old new : CornersLent} {number : ℕ} (after : AfterCorners k ls old new number) where
   abbrev segment : List Range
   segment = runningAfter k (rangesOf ls)
 
   pub promise-below : {fit : Fit} → cornersAnswer k ls old ≡ accepted fit → CornersPromise k ls (old .ps) (old .qs) (old .ds) (new .ps) (new .qs) (new .ds) (answerOf fit)
   unfolding _>>=_
   promise-below {fit} e = record { answer-is = answer-means fit ∙ sym (ap (λ x. x >>= λ f. accepted (countOf f)) e); ps-are = after .ps-are; qs-are = after .qs-are; ds-are = after .ds-are }
-
-  found : Accepted (cornersAnswer k ls old)
-  found = corners-zero after .0 refl
-
-  count-is : new .count ≡ length (cornersIn (found .0))
-  unfolding given
-  count-is = after .counted .count-is ∙ ap (λ x. given x (λ fit. length (cornersIn fit)) (old .count)) (found .1)
 
   bounded-some : (ks : List Line) → cornersAnswer k ls old ≡ accepted (bounded ks) → 0 < length ks
   unfolding answerOf
@@ -82,10 +76,18 @@ module _ {k : ℕ} {ls : Lists} {old new : CornersLent} (after : AfterCorners k 
       let some = bounded-some ks e in
       ((λ z. absurd (omega arith), λ y. never-open ks (sym y)), (λ z. absurd (omega arith), λ one. never-open ks (bounded-more ks e one)))
 
-  pub open-iff : (new .count ≡ 0) ↔ (cornersAnswer k ls old ≡ accepted open-strip)
-  open-iff =
-      let both = by-fit (found .0) (found .1) .0 in
-      (λ z. found .1 ∙ ap accepted (both .0 (sym count-is ∙ z)), λ e. count-is ∙ both .1 (accepted-is (sym (found .1) ∙ e)))
+  module _ (zero : number ≡ 0) where
+    pub fit-found : Accepted (cornersAnswer k ls old)
+    fit-found = corners-zero after .0 zero
 
-  pub one-range-iff : (new .count ≡ 0) ↔ (length (runningAfter k (rangesOf ls)) ≡ 1)
-  one-range-iff = let both = by-fit (found .0) (found .1) .1 in (λ z. both .0 (sym count-is ∙ z), λ one. count-is ∙ both .1 one)
+    pub count-found : new .count ≡ length (cornersIn (fit-found .0))
+    unfolding given
+    count-found = after .counted .count-is ∙ ap (λ x. given x (λ fit. length (cornersIn fit)) (old .count)) (fit-found .1)
+
+    pub open-iff : (new .count ≡ 0) ↔ (cornersAnswer k ls old ≡ accepted open-strip)
+    open-iff =
+        let both = by-fit (fit-found .0) (fit-found .1) .0 in
+        (λ z. fit-found .1 ∙ ap accepted (both .0 (sym count-found ∙ z)), λ e. count-found ∙ both .1 (accepted-is (sym (fit-found .1) ∙ e)))
+
+    pub one-range-iff : (new .count ≡ 0) ↔ (length (runningAfter k (rangesOf ls)) ≡ 1)
+    one-range-iff = let both = by-fit (fit-found .0) (fit-found .1) .1 in (λ z. both .0 (sym count-found ∙ z), λ one. count-found ∙ both .1 one)

@@ -1,8 +1,10 @@
--- What the numbers tell that Preview gives and sets. With after : AfterPreview level ls r old new number:
+-- What the numbers tell that Preview gives and sets. With after : AfterPreview v ls r old new number:
 --
 --     lent-kept                     where the number is not 0, everything that was lent is as it was
---     kind-in                       where it is 0, the kind is 0 or 1
---     joins-kind, begins-kind       then the kind is 0 exactly if the range joins the last segment, and 1 exactly if it begins one, which is open
+--     effect-found                  where it is 0, the effect that Preview tells
+--     kind-found, numbers-found     then the kind and the eight numbers are those of that effect
+--     kind-in                       so the kind is 0 or 1
+--     joins-kind, begins-kind       and it is 0 exactly if the range joins the last segment, and 1 exactly if it begins one, which is open
 --     joins-means                   so where the kind is 0, the eight numbers are those of the lines and times of the last segment with the range
 --     begins-zeros                  and where the kind is 1, each of the eight numbers is 0
 --     answer-below                  an effect that the library tells is that of an answer with which the call below keeps its promise, so preview's PreviewTheorems are about it
@@ -13,8 +15,9 @@ use mathlib.Core.Path.{_≡_, refl, sym, ap, ap₂, _∙_}
 use mathlib.Core.Logic.{_↔_, _⊎_, inl, inr}
 use mathlib.Core.List.{[], _∷_, _++_}
 use native.Mathlib.Omega.{arith}
-use lib.IntN.{ℤ, pos}
+use lib.IntN.{pos}
 use Rattle.definitions.specs.Times.{none, at, Time as TimeTerm}
+use Rattle.definitions.specs.Services.{Service}
 use Rattle.definitions.specs.Ranges.{Range, Lists, rangesOf}
 use Rattle.definitions.specs.Splits.{lastRun}
 use Rattle.definitions.specs.Segments.{segments}
@@ -65,13 +68,13 @@ unfolding answerOf previewMeaning
 answer-means (joins o) = ap (λ x. accepted (joins x)) (outlook-means o)
 answer-means (begins o) = ap (λ x. accepted (begins x)) (outlook-means o)
 
-pub answer-below : (level : ℤ) (ls : Lists) (r : Range) {e : Effect} → previewAnswer level ls r ≡ accepted e
-    → (answer : PreviewAnswer) × PreviewPromise (record { level = level }) ls r answer × (previewMeaning answer ≡ accepted e)
-answer-below level ls r {e} is = (answerOf e, record { answer-is = answer-means e ∙ sym is }, answer-means e)
+pub answer-below : (v : Service) (ls : Lists) (r : Range) {e : Effect} → previewAnswer v ls r ≡ accepted e
+    → (answer : PreviewAnswer) × PreviewPromise v ls r answer × (previewMeaning answer ≡ accepted e)
+answer-below v ls r {e} is = (answerOf e, record { answer-is = answer-means e ∙ sym is }, answer-means e)
 
 -- what begins is open
-begun-open : (level : ℤ) (ls : Lists) (r : Range) {o : OutlookTerm} → previewAnswer level ls r ≡ accepted (begins o) → o ≡ open-strip
-begun-open level ls r is = let below = answer-below level ls r is in begins-open (below .1) (below .2)
+begun-open : (v : Service) (ls : Lists) (r : Range) {o : OutlookTerm} → previewAnswer v ls r ≡ accepted (begins o) → o ≡ open-strip
+begun-open v ls r is = let below = answer-below v ls r is in begins-open (below .1) (below .2)
 
 -- ---- after Preview
 
@@ -81,53 +84,53 @@ unfolding refusal given
 kept (refused n) e above kind numbers = λ i. record { kind = kind i; numbers = numbers i }
 kept (accepted x) e above kind numbers = absurd (omega arith)
 
-module _ {level : ℤ} {ls : Lists} {r : Range} {old new : PreviewLent} {number : ℕ} (after : AfterPreview level ls r old new number) where
+module _ {v : Service} {ls : Lists} {r : Range} {old new : PreviewLent} {number : ℕ} (after : AfterPreview v ls r old new number) where
   pub lent-kept : 0 < number → new ≡ old
-  lent-kept above = kept (previewAnswer level ls r) (after .number-is) above (after .kind-is) (after .numbers-are)
+  lent-kept above = kept (previewAnswer v ls r) (after .number-is) above (after .kind-is) (after .numbers-are)
 
   module _ (zero : number ≡ 0) where
-    found : Accepted (previewAnswer level ls r)
-    found = preview-zero after .0 zero
+    pub effect-found : Accepted (previewAnswer v ls r)
+    effect-found = preview-zero after .0 zero
 
-    kind-is : new .kind ≡ kindNumber (found .0)
+    pub kind-found : new .kind ≡ kindNumber (effect-found .0)
     unfolding given
-    kind-is = after .kind-is ∙ ap (λ x. given x kindNumber (old .kind)) (found .1)
+    kind-found = after .kind-is ∙ ap (λ x. given x kindNumber (old .kind)) (effect-found .1)
 
-    numbers-are : new .numbers ≡ outlookNumbers (effectOutlook (found .0))
+    pub numbers-found : new .numbers ≡ outlookNumbers (effectOutlook (effect-found .0))
     unfolding given
-    numbers-are = after .numbers-are ∙ ap (λ x. given x (λ e. outlookNumbers (effectOutlook e)) (old .numbers)) (found .1)
+    numbers-found = after .numbers-are ∙ ap (λ x. given x (λ e. outlookNumbers (effectOutlook e)) (old .numbers)) (effect-found .1)
 
     pub kind-in : (new .kind ≡ 0) ⊎ (new .kind ≡ 1)
     unfolding kindNumber
-    kind-in = by (found .0) kind-is
+    kind-in = by (effect-found .0) kind-found
       where
         by : (e : Effect) → new .kind ≡ kindNumber e → (new .kind ≡ 0) ⊎ (new .kind ≡ 1)
         by (joins o) k = inl k
         by (begins o) k = inr k
 
-    pub joins-kind : (new .kind ≡ 0) ↔ ((o : OutlookTerm) × (previewAnswer level ls r ≡ accepted (joins o)))
+    pub joins-kind : (new .kind ≡ 0) ↔ ((o : OutlookTerm) × (previewAnswer v ls r ≡ accepted (joins o)))
     unfolding kindNumber
-    joins-kind = (by (found .0) (found .1) kind-is, λ j. kind-is ∙ ap kindNumber (accepted-is (sym (found .1) ∙ j .1)))
+    joins-kind = (by (effect-found .0) (effect-found .1) kind-found, λ j. kind-found ∙ ap kindNumber (accepted-is (sym (effect-found .1) ∙ j .1)))
       where
-        by : (e : Effect) → previewAnswer level ls r ≡ accepted e → new .kind ≡ kindNumber e → new .kind ≡ 0 → (o : OutlookTerm) × (previewAnswer level ls r ≡ accepted (joins o))
+        by : (e : Effect) → previewAnswer v ls r ≡ accepted e → new .kind ≡ kindNumber e → new .kind ≡ 0 → (o : OutlookTerm) × (previewAnswer v ls r ≡ accepted (joins o))
         by (joins o) is k z = (o, is)
         by (begins o) is k z = absurd (omega arith)
 
-    pub joins-means : new .kind ≡ 0 → (o : OutlookTerm) × (new .numbers ≡ outlookNumbers o) × LinesOf (record { level = level }) (lastRun (segments (rangesOf ls)) ++ (r ∷ [])) (r .time) o
+    pub joins-means : new .kind ≡ 0 → (o : OutlookTerm) × (new .numbers ≡ outlookNumbers o) × LinesOf v (lastRun (segments (rangesOf ls)) ++ (r ∷ [])) (r .time) o
     unfolding effectOutlook
     joins-means z =
         let j = joins-kind .0 z in
-        let below = answer-below level ls r (j .1) in
-        (j .0, numbers-are ∙ ap (λ e. outlookNumbers (effectOutlook e)) (accepted-is (sym (found .1) ∙ j .1)), joins-lines (below .1) (below .2))
+        let below = answer-below v ls r (j .1) in
+        (j .0, numbers-found ∙ ap (λ e. outlookNumbers (effectOutlook e)) (accepted-is (sym (effect-found .1) ∙ j .1)), joins-lines (below .1) (below .2))
 
-    pub begins-kind : (new .kind ≡ 1) ↔ (previewAnswer level ls r ≡ accepted (begins open-strip))
+    pub begins-kind : (new .kind ≡ 1) ↔ (previewAnswer v ls r ≡ accepted (begins open-strip))
     unfolding kindNumber
-    begins-kind = (by (found .0) (found .1) kind-is, λ b. kind-is ∙ ap kindNumber (accepted-is (sym (found .1) ∙ b)))
+    begins-kind = (by (effect-found .0) (effect-found .1) kind-found, λ b. kind-found ∙ ap kindNumber (accepted-is (sym (effect-found .1) ∙ b)))
       where
-        by : (e : Effect) → previewAnswer level ls r ≡ accepted e → new .kind ≡ kindNumber e → new .kind ≡ 1 → previewAnswer level ls r ≡ accepted (begins open-strip)
+        by : (e : Effect) → previewAnswer v ls r ≡ accepted e → new .kind ≡ kindNumber e → new .kind ≡ 1 → previewAnswer v ls r ≡ accepted (begins open-strip)
         by (joins o) is k one = absurd (omega arith)
-        by (begins o) is k one = is ∙ ap (λ x. accepted (begins x)) (begun-open level ls r is)
+        by (begins o) is k one = is ∙ ap (λ x. accepted (begins x)) (begun-open v ls r is)
 
     pub begins-zeros : new .kind ≡ 1 → new .numbers ≡ eight (pos 0) (pos 0) (pos 0) (pos 0) (pos 0) (pos 0) 0 0
     unfolding effectOutlook slowLine fastLine someNumber allNumber
-    begins-zeros one = numbers-are ∙ ap (λ e. outlookNumbers (effectOutlook e)) (accepted-is (sym (found .1) ∙ begins-kind .0 one))
+    begins-zeros one = numbers-found ∙ ap (λ e. outlookNumbers (effectOutlook e)) (accepted-is (sym (effect-found .1) ∙ begins-kind .0 one))

@@ -9,8 +9,8 @@
 use Prim.Native.Nat.{ℕ}
 use mathlib.Core.Path.{_≡_, refl, sym, ap, _∙_}
 use mathlib.Core.List.{List}
-use lib.IntN.{ℤ}
 use lib.ListN.{length}
+use Rattle.definitions.specs.Services.{Service}
 use Rattle.definitions.specs.Ranges.{Range, Lists}
 use Rattle.definitions.specs.Headers.{Header}
 use Rattle.definitions.specs.Answers.{Answer, refused, accepted, _>>=_, refusal, given}
@@ -79,10 +79,11 @@ counts-refused e size old = record { number-is = number-refused e; count-is = gi
 pub after-read : (file : List ℕ) (old new : ReadLent) {answer : ReadAnswer} → ReadPromise file (old .times) (old .lows) (old .highs) (new .times) (new .lows) (new .highs) answer
     → new .address ≡ given (readMeaning answer) (λ known. known .address) (old .address)
     → new .level ≡ given (readMeaning answer) (λ known. known .level) (old .level)
+    → new .direction ≡ given (readMeaning answer) (λ known. known .direction) (old .direction)
     → new .ranges ≡ given (readMeaning answer) (λ known. known .ranges) (old .ranges)
     → {r : ℕ} → r ≡ refusal (readMeaning answer) → AfterRead file old new r
 unfolding recordOf
-after-read file old new h address level ranges number =
+after-read file old new h address level direction ranges number =
     let below = readAnswer file old in
     record {
       number-is = number-told recordOf below (h .answer-is) number;
@@ -91,6 +92,7 @@ after-read file old new h address level ranges number =
       highs-are = h .highs-are;
       address-is = value-told recordOf below (h .answer-is) (λ known. known .address) (λ t. t .head .address) (λ t. refl) (old .address) address;
       level-is = value-told recordOf below (h .answer-is) (λ known. known .level) (λ t. t .head .service .level) (λ t. refl) (old .level) level;
+      direction-is = value-told recordOf below (h .answer-is) (λ known. known .direction) (λ t. t .head .service .direction) (λ t. refl) (old .direction) direction;
       ranges-is = value-told recordOf below (h .answer-is) (λ known. known .ranges) (λ t. length (t .ranges)) (λ t. refl) (old .ranges) ranges;
     }
 
@@ -99,10 +101,10 @@ pub after-write : (h : Header) (ls : Lists) (old new : WriteLent) {answer : Writ
 after-write h ls old new promise counts =
     record { counted = counts-told length (writeInto (old .file) h ls) (promise .answer-is) (λ n. n) length (λ bytes. refl) (old .count) counts; file-is = promise .file-is }
 
-pub after-segment : (level : ℤ) (ls : Lists) (old new : SegmentLent) {answer : SegmentAnswer} {r : ℕ} → SegmentPromise (record { level = level }) ls (old .columns) (new .columns) answer
-    → Counts (segmentMeaning answer) (λ n. n) (old .count) (new .count) r → AfterSegment level ls old new r
-after-segment level ls old new h counts =
-    record { counted = counts-told length (segmentAnswer level ls old) (h .answer-is) (λ n. n) length (λ ss. refl) (old .count) counts; columns-are = h .columns-are }
+pub after-segment : (v : Service) (ls : Lists) (old new : SegmentLent) {answer : SegmentAnswer} {r : ℕ} → SegmentPromise v ls (old .columns) (new .columns) answer
+    → Counts (segmentMeaning answer) (λ n. n) (old .count) (new .count) r → AfterSegment v ls old new r
+after-segment v ls old new h counts =
+    record { counted = counts-told length (segmentAnswer v ls old) (h .answer-is) (λ n. n) length (λ ss. refl) (old .count) counts; columns-are = h .columns-are }
 
 corner-number : (fit : Fit) → cornerNumber (countOf fit) ≡ length (cornersIn fit)
 unfolding cornerNumber countOf cornersIn
@@ -119,12 +121,12 @@ after-corners k ls old new h counts =
       ds-are = h .ds-are;
     }
 
-pub after-preview : (level : ℤ) (ls : Lists) (r : Range) (old new : PreviewLent) {answer : PreviewAnswer} → PreviewPromise (record { level = level }) ls r answer
+pub after-preview : (v : Service) (ls : Lists) (r : Range) (old new : PreviewLent) {answer : PreviewAnswer} → PreviewPromise v ls r answer
     → {number : ℕ} → number ≡ refusal (previewMeaning answer)
     → new .kind ≡ given (previewMeaning answer) kindNumber (old .kind)
     → new .numbers ≡ given (previewMeaning answer) (λ e. outlookNumbers (effectOutlook e)) (old .numbers)
-    → AfterPreview level ls r old new number
-after-preview level ls r old new h number kind numbers =
+    → AfterPreview v ls r old new number
+after-preview v ls r old new h number kind numbers =
     record {
       number-is = number ∙ ap refusal (h .answer-is);
       kind-is = kind ∙ ap (λ x. given x kindNumber (old .kind)) (h .answer-is);

@@ -18,6 +18,7 @@ use mathlib.Core.List.{List, [], _∷_, map}
 use lib.IntN.{ℤ}
 use lib.ListN.{length}
 use Rattle.definitions.specs.Ranges.{Range, Lists}
+use Rattle.definitions.specs.Services.{Service}
 use Rattle.definitions.specs.Headers.{Header}
 use Rattle.definitions.specs.Results.{Segment, numbersOf, OutlookNumbers, outlookNumbers}
 use Rattle.definitions.specs.Answers.{Answer, refusal, filled, given}
@@ -45,6 +46,7 @@ pub record ReadLent : Type 0 where
   pub highs : List ℤ
   pub address : ℕ
   pub level : ℤ
+  pub direction : ℕ
   pub ranges : ℕ
 
 abbrev pub readAnswer : List ℕ → ReadLent → Answer Trace
@@ -57,6 +59,7 @@ pub record AfterRead (file : List ℕ) (old new : ReadLent) (r : ℕ) : Type 0 w
   pub highs-are : new .highs ≡ filled (readAnswer file old) (λ t. map (λ r. r .high) (t .ranges)) (old .highs)
   pub address-is : new .address ≡ given (readAnswer file old) (λ t. t .head .address) (old .address)
   pub level-is : new .level ≡ given (readAnswer file old) (λ t. t .head .service .level) (old .level)
+  pub direction-is : new .direction ≡ given (readAnswer file old) (λ t. t .head .service .direction) (old .direction)
   pub ranges-is : new .ranges ≡ given (readAnswer file old) (λ t. length (t .ranges)) (old .ranges)
 
 -- ---- Write
@@ -75,12 +78,12 @@ pub record SegmentLent : Type 0 where
   pub columns : Columns
   pub count : ℕ
 
-abbrev pub segmentAnswer : ℤ → Lists → SegmentLent → Answer (List Segment)
-segmentAnswer level ls old = segmentCall (lengths (old .columns)) (record { level = level }) ls
+abbrev pub segmentAnswer : Service → Lists → SegmentLent → Answer (List Segment)
+segmentAnswer v ls old = segmentCall (lengths (old .columns)) v ls
 
-pub record AfterSegment (level : ℤ) (ls : Lists) (old new : SegmentLent) (r : ℕ) : Type 0 where
-  pub counted : Counts (segmentAnswer level ls old) length (old .count) (new .count) r
-  pub columns-are : EachColumn (λ A number column. column (new .columns) ≡ filled (segmentAnswer level ls old) (λ ss. map (λ s. number (numbersOf s)) ss) (column (old .columns)))
+pub record AfterSegment (v : Service) (ls : Lists) (old new : SegmentLent) (r : ℕ) : Type 0 where
+  pub counted : Counts (segmentAnswer v ls old) length (old .count) (new .count) r
+  pub columns-are : EachColumn (λ A number column. column (new .columns) ≡ filled (segmentAnswer v ls old) (λ ss. map (λ s. number (numbersOf s)) ss) (column (old .columns)))
 
 -- ---- Corners: an open fit has none
 
@@ -113,13 +116,13 @@ pub record PreviewLent : Type 0 where
   pub kind : ℕ
   pub numbers : OutlookNumbers
 
-abbrev pub previewAnswer : ℤ → Lists → Range → Answer Effect
-previewAnswer level ls r = previewCall (record { level = level }) ls r
+abbrev pub previewAnswer : Service → Lists → Range → Answer Effect
+previewAnswer v ls r = previewCall v ls r
 
-pub record AfterPreview (level : ℤ) (ls : Lists) (r : Range) (old new : PreviewLent) (number : ℕ) : Type 0 where
-  pub number-is : number ≡ refusal (previewAnswer level ls r)
-  pub kind-is : new .kind ≡ given (previewAnswer level ls r) kindNumber (old .kind)
-  pub numbers-are : new .numbers ≡ given (previewAnswer level ls r) (λ e. outlookNumbers (effectOutlook e)) (old .numbers)
+pub record AfterPreview (v : Service) (ls : Lists) (r : Range) (old new : PreviewLent) (number : ℕ) : Type 0 where
+  pub number-is : number ≡ refusal (previewAnswer v ls r)
+  pub kind-is : new .kind ≡ given (previewAnswer v ls r) kindNumber (old .kind)
+  pub numbers-are : new .numbers ≡ given (previewAnswer v ls r) (λ e. outlookNumbers (effectOutlook e)) (old .numbers)
 
 -- ---- the report
 

@@ -8,8 +8,8 @@ use Prim.Native.Nat.{ℕ, _<_}
 use mathlib.Core.Path.{_≡_, refl, sym, ap, _∙_}
 use mathlib.Core.Logic.{_↔_}
 use mathlib.Core.List.{List, [], _∷_, _++_}
-use lib.IntN.{ℤ}
 use lib.ListN.{length}
+use Rattle.definitions.specs.Services.{Service}
 use Rattle.definitions.specs.Ranges.{Range, Lists, rangesOf}
 use Rattle.definitions.specs.Headers.{Header}
 use Rattle.definitions.specs.Segments.{runningAfter}
@@ -65,17 +65,17 @@ module _ {h : Header} {ls : Lists} {old new : WriteLent} {r : ℕ} (after : Afte
   unfolding writeCall
   write-none = none-exactly rows-of-write (writeFile (traceOf h ls)) refl (write-zero after)
 
-module _ {level : ℤ} {ls : Lists} {old new : SegmentLent} {r : ℕ} (after : AfterSegment level ls old new r) where
+module _ {v : Service} {ls : Lists} {old new : SegmentLent} {r : ℕ} (after : AfterSegment v ls old new r) where
   abbrev rows-of-segment : List Row
-  rows-of-segment = segmentRows (lengths (old .columns)) (record { level = level }) ls
+  rows-of-segment = segmentRows (lengths (old .columns)) v ls
 
   pub segment-number : (n : ℕ) → 0 < n → (r ≡ n) ↔ FirstAt n rows-of-segment
   unfolding segmentCall
-  segment-number = exactly rows-of-segment (segmentsOf (record { level = level }) (rangesOf ls)) refl (after .counted .number-is)
+  segment-number = exactly rows-of-segment (segmentsOf v (rangesOf ls)) refl (after .counted .number-is)
 
   pub segment-none : (r ≡ 0) ↔ NoneHolds rows-of-segment
   unfolding segmentCall
-  segment-none = none-exactly rows-of-segment (segmentsOf (record { level = level }) (rangesOf ls)) refl (segment-zero after)
+  segment-none = none-exactly rows-of-segment (segmentsOf v (rangesOf ls)) refl (segment-zero after)
 
 module _ {k : ℕ} {ls : Lists} {old new : CornersLent} {r : ℕ} (after : AfterCorners k ls old new r) where
   abbrev rows-of-corners : List Row
@@ -89,15 +89,15 @@ module _ {k : ℕ} {ls : Lists} {old new : CornersLent} {r : ℕ} (after : After
   unfolding cornersCall
   corners-none = none-exactly rows-of-corners (fitOf (runningAfter k (rangesOf ls))) refl (corners-zero after)
 
-module _ {level : ℤ} {ls : Lists} {range : Range} {old new : PreviewLent} {r : ℕ} (after : AfterPreview level ls range old new r) where
+module _ {v : Service} {ls : Lists} {range : Range} {old new : PreviewLent} {r : ℕ} (after : AfterPreview v ls range old new r) where
   abbrev rows-of-preview : List Row
-  rows-of-preview = previewRows (record { level = level }) ls range
+  rows-of-preview = previewRows v ls range
 
   pub preview-number : (n : ℕ) → 0 < n → (r ≡ n) ↔ FirstAt n rows-of-preview
-  preview-number = exactly rows-of-preview (effectOn (record { level = level }) ls range) (preview-by-rows (record { level = level }) ls range) (after .number-is)
+  preview-number = exactly rows-of-preview (effectOn v ls range) (preview-by-rows v ls range) (after .number-is)
 
   pub preview-none : (r ≡ 0) ↔ NoneHolds rows-of-preview
-  preview-none = none-exactly rows-of-preview (effectOn (record { level = level }) ls range) (preview-by-rows (record { level = level }) ls range) (preview-zero after)
+  preview-none = none-exactly rows-of-preview (effectOn v ls range) (preview-by-rows v ls range) (preview-zero after)
 
 module _ {file : List ℕ} {old new : ReportLent} {r : ℕ} (after : AfterReport file old new r) where
   abbrev rows-of-report : List Row

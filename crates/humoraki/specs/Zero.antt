@@ -11,7 +11,6 @@ use mathlib.Core.Logic.{_↔_}
 use mathlib.Core.Bool.{true, false}
 use mathlib.Core.List.{List, [], _∷_}
 use native.Mathlib.Omega.{arith}
-use lib.IntN.{ℤ}
 use Rattle.definitions.specs.Times.{none}
 use Rattle.definitions.specs.Ranges.{Range, Lists, rangesOf}
 use Rattle.definitions.specs.Services.{Service}
@@ -72,25 +71,24 @@ read-zero {file} {old} h = zero-exactly (readAnswer file old) (λ n e. let m = r
 pub write-zero : {h : Header} {ls : Lists} {old new : WriteLent} {r : ℕ} → AfterWrite h ls old new r → (r ≡ 0) ↔ Accepted (writeInto (old .file) h ls)
 unfolding writeCall writeRows listRows
 write-zero {h} {ls} {old} after =
-    zero-exactly (writeInto (old .file) h ls) (call-above _ _ (omega arith, (omega arith, (omega arith, (omega arith, (omega arith, ranges-numbered none (rangesOf ls))))))) (after .counted .number-is)
+    zero-exactly (writeInto (old .file) h ls) (call-above _ _ (omega arith, (omega arith, (omega arith, (omega arith, (omega arith, (omega arith, ranges-numbered none (rangesOf ls)))))))) (after .counted .number-is)
 
 segment-numbered : (lengths : List ℕ) (v : Service) (ls : Lists) → Numbered (segmentRows lengths v ls)
 unfolding segmentRows listRows
-segment-numbered lengths v ls = (omega arith, (omega arith, (omega arith, (omega arith, ranges-numbered none (rangesOf ls)))))
+segment-numbered lengths v ls = (omega arith, (omega arith, (omega arith, (omega arith, (omega arith, ranges-numbered none (rangesOf ls))))))
 
-pub segment-zero : {level : ℤ} {ls : Lists} {old new : SegmentLent} {r : ℕ} → AfterSegment level ls old new r → (r ≡ 0) ↔ Accepted (segmentAnswer level ls old)
+pub segment-zero : {v : Service} {ls : Lists} {old new : SegmentLent} {r : ℕ} → AfterSegment v ls old new r → (r ≡ 0) ↔ Accepted (segmentAnswer v ls old)
 unfolding segmentCall
-segment-zero {level} {ls} {old} h = zero-exactly (segmentAnswer level ls old) (call-above _ _ (segment-numbered (lengths (old .columns)) (record { level = level }) ls)) (h .counted .number-is)
+segment-zero {v} {ls} {old} h = zero-exactly (segmentAnswer v ls old) (call-above _ _ (segment-numbered (lengths (old .columns)) v ls)) (h .counted .number-is)
 
 pub corners-zero : {k : ℕ} {ls : Lists} {old new : CornersLent} {r : ℕ} → AfterCorners k ls old new r → (r ≡ 0) ↔ Accepted (cornersAnswer k ls old)
 unfolding cornersCall cornerRows listRows
 corners-zero {k} {ls} {old} h =
     zero-exactly (cornersAnswer k ls old) (call-above _ _ (omega arith, (omega arith, (omega arith, Numbered-append (rangesRows none (rangesOf ls)) (countRows k ls) (ranges-numbered none (rangesOf ls)) (omega arith, tt))))) (h .counted .number-is)
 
-pub preview-zero : {level : ℤ} {ls : Lists} {r : Range} {old new : PreviewLent} {number : ℕ} → AfterPreview level ls r old new number → (number ≡ 0) ↔ Accepted (previewAnswer level ls r)
-preview-zero {level} {ls} {r} h =
-    let v : Service = record { level = level } in
-    zero-exactly (previewAnswer level ls r) (λ n e. call-above (previewRows v ls r) (effectOn v ls r) (segment-numbered [] v (longer ls r)) n (sym (preview-by-rows v ls r) ∙ e)) (h .number-is)
+pub preview-zero : {v : Service} {ls : Lists} {r : Range} {old new : PreviewLent} {number : ℕ} → AfterPreview v ls r old new number → (number ≡ 0) ↔ Accepted (previewAnswer v ls r)
+preview-zero {v} {ls} {r} h =
+    zero-exactly (previewAnswer v ls r) (λ n e. call-above (previewRows v ls r) (effectOn v ls r) (segment-numbered [] v (longer ls r)) n (sym (preview-by-rows v ls r) ∙ e)) (h .number-is)
 
 pub report-zero : {file : List ℕ} {old new : ReportLent} {r : ℕ} → AfterReport file old new r → (r ≡ 0) ↔ Accepted (reportAnswer file old)
 unfolding reportCall

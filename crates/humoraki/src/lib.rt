@@ -20,7 +20,7 @@ use values::Line;
 use values::Outlook;
 use values::rows::outlook_row;
 
-// The trace of a file, with its address, level and number of ranges.
+// The trace of a file, with its address, level, direction and number of ranges.
 #[no_mangle]
 pub extern "C" fn humoraki_read(
     file: &[u8],
@@ -29,9 +29,10 @@ pub extern "C" fn humoraki_read(
     highs: &mut [i32],
     address: &mut u32,
     level: &mut i32,
+    direction: &mut u32,
     ranges: &mut usize,
 ) -> u8
-    ensures { λ r. ⌜ AfterRead (now (file .entry)) (record { times = now (times .entry); lows = now (lows .entry); highs = now (highs .entry); address = now (address .entry); level = now (level .entry); ranges = now (ranges .entry) }) (record { times = now (times .exit); lows = now (lows .exit); highs = now (highs .exit); address = now (address .exit); level = now (level .exit); ranges = now (ranges .exit) }) r ⌝ }
+    ensures { λ r. ⌜ AfterRead (now (file .entry)) (record { times = now (times .entry); lows = now (lows .entry); highs = now (highs .entry); address = now (address .entry); level = now (level .entry); direction = now (direction .entry); ranges = now (ranges .entry) }) (record { times = now (times .exit); lows = now (lows .exit); highs = now (highs .exit); address = now (address .exit); level = now (level .exit); direction = now (direction .exit); ranges = now (ranges .exit) }) r ⌝ }
 {
     let answer = trace::read(file, times, lows, highs);
     match answer {
@@ -39,6 +40,7 @@ pub extern "C" fn humoraki_read(
             let service = known.level;
             *address = known.address;
             *level = service;
+            *direction = known.direction;
             *ranges = known.ranges;
             0
         }
@@ -51,15 +53,16 @@ pub extern "C" fn humoraki_read(
 pub extern "C" fn humoraki_write(
     address: u32,
     level: i32,
+    direction: u32,
     times: &[u32],
     lows: &[i32],
     highs: &[i32],
     file: &mut [u8],
     count: &mut usize,
 ) -> u8
-    ensures { λ r. ⌜ AfterWrite (record { address = address; service = record { level = level } }) (record { times = now (times .entry); lows = now (lows .entry); highs = now (highs .entry) }) (record { file = now (file .entry); count = now (count .entry) }) (record { file = now (file .exit); count = now (count .exit) }) r ⌝ }
+    ensures { λ r. ⌜ AfterWrite (record { address = address; service = record { level = level; direction = direction } }) (record { times = now (times .entry); lows = now (lows .entry); highs = now (highs .entry) }) (record { file = now (file .entry); count = now (count .entry) }) (record { file = now (file .exit); count = now (count .exit) }) r ⌝ }
 {
-    let answer = trace::write(address, level, times, lows, highs, file);
+    let answer = trace::write(address, level, direction, times, lows, highs, file);
     match answer {
         WriteAnswer::Accepted(bytes) => {
             *count = bytes;
@@ -73,6 +76,7 @@ pub extern "C" fn humoraki_write(
 #[no_mangle]
 pub extern "C" fn humoraki_segment(
     level: i32,
+    direction: u32,
     times: &[u32],
     lows: &[i32],
     highs: &[i32],
@@ -89,10 +93,11 @@ pub extern "C" fn humoraki_segment(
     alls: &mut [u64],
     count: &mut usize,
 ) -> u8
-    ensures { λ r. ⌜ AfterSegment level (record { times = now (times .entry); lows = now (lows .entry); highs = now (highs .entry) }) (record { columns = columns (now («first_times» .entry)) (now («last_times» .entry)) (now (counts .entry)) (now («slow_ps» .entry)) (now («slow_qs» .entry)) (now («slow_ds» .entry)) (now («fast_ps» .entry)) (now («fast_qs» .entry)) (now («fast_ds» .entry)) (now (somes .entry)) (now (alls .entry)); count = now (count .entry) }) (record { columns = columns (now («first_times» .exit)) (now («last_times» .exit)) (now (counts .exit)) (now («slow_ps» .exit)) (now («slow_qs» .exit)) (now («slow_ds» .exit)) (now («fast_ps» .exit)) (now («fast_qs» .exit)) (now («fast_ds» .exit)) (now (somes .exit)) (now (alls .exit)); count = now (count .exit) }) r ⌝ }
+    ensures { λ r. ⌜ AfterSegment (record { level = level; direction = direction }) (record { times = now (times .entry); lows = now (lows .entry); highs = now (highs .entry) }) (record { columns = columns (now («first_times» .entry)) (now («last_times» .entry)) (now (counts .entry)) (now («slow_ps» .entry)) (now («slow_qs» .entry)) (now («slow_ds» .entry)) (now («fast_ps» .entry)) (now («fast_qs» .entry)) (now («fast_ds» .entry)) (now (somes .entry)) (now (alls .entry)); count = now (count .entry) }) (record { columns = columns (now («first_times» .exit)) (now («last_times» .exit)) (now (counts .exit)) (now («slow_ps» .exit)) (now («slow_qs» .exit)) (now («slow_ds» .exit)) (now («fast_ps» .exit)) (now («fast_qs» .exit)) (now («fast_ds» .exit)) (now (somes .exit)) (now (alls .exit)); count = now (count .exit) }) r ⌝ }
 {
     let answer = drift::segment(
         level,
+        direction,
         times,
         lows,
         highs,
@@ -184,6 +189,7 @@ fn tell_outlook(
 #[no_mangle]
 pub extern "C" fn humoraki_preview(
     level: i32,
+    direction: u32,
     times: &[u32],
     lows: &[i32],
     highs: &[i32],
@@ -200,9 +206,9 @@ pub extern "C" fn humoraki_preview(
     some: &mut u64,
     all: &mut u64,
 ) -> u8
-    ensures { λ r. ⌜ AfterPreview level (record { times = now (times .entry); lows = now (lows .entry); highs = now (highs .entry) }) (record { time = time; low = low; high = high }) (record { kind = now (kind .entry); numbers = eight (now («slow_p» .entry)) (now («slow_q» .entry)) (now («slow_d» .entry)) (now («fast_p» .entry)) (now («fast_q» .entry)) (now («fast_d» .entry)) (now (some .entry)) (now (all .entry)) }) (record { kind = now (kind .exit); numbers = eight (now («slow_p» .exit)) (now («slow_q» .exit)) (now («slow_d» .exit)) (now («fast_p» .exit)) (now («fast_q» .exit)) (now («fast_d» .exit)) (now (some .exit)) (now (all .exit)) }) r ⌝ }
+    ensures { λ r. ⌜ AfterPreview (record { level = level; direction = direction }) (record { times = now (times .entry); lows = now (lows .entry); highs = now (highs .entry) }) (record { time = time; low = low; high = high }) (record { kind = now (kind .entry); numbers = eight (now («slow_p» .entry)) (now («slow_q» .entry)) (now («slow_d» .entry)) (now («fast_p» .entry)) (now («fast_q» .entry)) (now («fast_d» .entry)) (now (some .entry)) (now (all .entry)) }) (record { kind = now (kind .exit); numbers = eight (now («slow_p» .exit)) (now («slow_q» .exit)) (now («slow_d» .exit)) (now («fast_p» .exit)) (now («fast_q» .exit)) (now («fast_d» .exit)) (now (some .exit)) (now (all .exit)) }) r ⌝ }
 {
-    let answer = preview::preview(level, times, lows, highs, time, low, high);
+    let answer = preview::preview(level, direction, times, lows, highs, time, low, high);
     match answer {
         PreviewAnswer::Joins(o) => {
             *kind = 0;

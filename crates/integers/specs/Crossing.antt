@@ -6,24 +6,21 @@
 --     reach-rising, reach-too-late            p above 0: the least is the larger of `from` and the crossing, and none if the crossing is past `to`
 --     reach-after, crossing-after             p above 0, below v at `from`: the least is the crossing, which is after `from` and equal to ceilDiv (v − q) p
 --     reach-never                             p not above 0, below v at `from`: none
---     firstReach p q v from to                the answer, computed; `unless b t` is `some t` unless b
---     firstReach-is                           it is the least, in the sense of `IsLeast`
 --
--- Example: 3 · t + 10 reaches 200 at t = 64: `firstReach (pos 3) (pos 10) (pos 200) 30 4294967295` computes to `some 64`, and by `least-unique` whatever is least there, is 64.
+-- The least is meant in the sense of `IsLeast`, so by `least-unique` a search finds the same.
+-- Example: 3 · t + 10 reaches 200 at t = 64, for `crossing (pos 3) (pos 10) (pos 200)` is 64.
 -- Assumes nothing.
 use mathlib.Core.Path.{_≡_, refl, sym}
 use mathlib.Core.Logic.{_↔_}
-use mathlib.Core.Option.{Option, none, some}
-use mathlib.Core.Bool.{Bool, true, false, cond}
+use mathlib.Core.Option.{none, some}
 use mathlib.Core.List.{[], _∷_}
 use Prim.Native.Nat.{ℕ, _<_, _≤_, max}
 use native.Mathlib.Nat as NatL
 use native.Mathlib.Omega.{arith}
-use lib.Dec.{ltb}
 use lib.IntN.{ℤ, pos, negsuc, _+ℤ_, _-ℤ_, _*ℤ_}
-use lib.Signed.{_≤ℤ_, _<ℤ_, ltZ}
+use lib.Signed.{_≤ℤ_, _<ℤ_}
 use Rattle.integers.specs.Parts.{ints, posPart}
-use Rattle.integers.specs.OrderLaws.{≤ℤ-<ℤ-⊥, by-ltZ}
+use Rattle.integers.specs.OrderLaws.{≤ℤ-<ℤ-⊥}
 use Rattle.integers.specs.Certificates.{hyp, num, _⊞_, _⊠_}
 use Rattle.integers.specs.Solve.{claims, certify!, polynomial! }
 use Rattle.integers.specs.Rounding.{ceilDiv, ceilDiv-iff, ceilDiv-above}
@@ -83,35 +80,3 @@ module _ (p q v : ℤ) where
 
     pub reach-after : pos 0 <ℤ p → (p *ℤ pos from +ℤ q) <ℤ v → crossing p q v ≤ to → IsLeast (Reaches p q v) from to (some (crossing p q v))
     reach-after h k l = let a = crossing-after h k .1 in rw (sym (NatL.max-eq-right {n = from} {m = crossing p q v} (omega arith))) (reach-rising h (omega arith) l)
-
--- ---- the answer, computed
-abbrev pub unless : Bool → ℕ → Option ℕ
-unless true t = none
-unless false t = some t
-
-unfoldable pub firstReach : ℤ → ℤ → ℤ → ℕ → ℕ → Option ℕ
-firstReach p q v from to =
-    let late = max from (crossing p q v) in
-    cond (ltZ (pos 0) p) (unless (ltb to late) late) (unless (ltZ (p *ℤ pos from +ℤ q) v) from)
-
-pub firstReach-is : (p q v : ℤ) (from to : ℕ) → from ≤ to → IsLeast (Reaches p q v) from to (firstReach p q v from to)
-unfolding firstReach
-firstReach-is p q v from to k = by-ltZ (λ b. Is (cond b (unless (ltb to late) late) (unless (ltZ (p *ℤ pos from +ℤ q) v) from))) (pos 0) p rises falls
-  where
-    late : ℕ
-    late = max from (crossing p q v)
-
-    Is : Option ℕ → Type 0
-    Is a = IsLeast (Reaches p q v) from to a
-
-    rises : pos 0 <ℤ p → Is (unless (ltb to late) late)
-    rises h =
-        by-ltZ (λ b. Is (unless b late)) (pos to) (pos late)
-        (λ g. let n : ¬ (crossing p q v ≤ to) = λ l. let m = NatL.max-le k l in omega ints in reach-too-late p q v from to h (omega arith))
-        (λ l. reach-rising p q v from to h k (let m = NatL.le-max-right from (crossing p q v) in omega ints))
-
-    falls : p ≤ℤ pos 0 → Is (unless (ltZ (p *ℤ pos from +ℤ q) v) from)
-    falls h =
-        by-ltZ (λ b. Is (unless b from)) (p *ℤ pos from +ℤ q) v
-        (λ g. reach-never p q v from to h g)
-        (λ l. least-at from (NatL.le-refl from) k l (λ s f g. absurd (omega arith)))

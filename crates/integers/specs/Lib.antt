@@ -17,6 +17,7 @@ pub mod Divides
 pub mod Gcd
 pub mod LowestTerms
 pub mod Lists
+pub mod Images
 pub mod Sorting
 pub mod Least
 pub mod Crossing

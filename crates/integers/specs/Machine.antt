@@ -20,6 +20,11 @@
 --     machine-certify! e h k m c tt  the same by a certificate
 --     machine-bound! e r tt          Within A z, with A computed
 -- The facts h are joined by `&`, or are `no-facts`. They are those of `Facts`: outcomes of tests (ltZ x y ≡ true, ofZ w x ≡ ofZ w y and its negation), bounds, orders, products of these; a goal too may be a product, a Boolean equation `leZ .. ≡ leZ .. && leZ ..`, or what an operation or a cast asks.
+--
+-- Laws without an environment:
+--     negated-in, negated-is         0 − x, as code negates a signed number that has a bound which the width holds, is within that bound, and is −x
+--         sub-size c = fits (negated-in w64 (c .pre) tt) tt
+--     toZ-fits                       any bits, read as a signed number, fit
 -- Assumes nothing.
 use mathlib.Core.Path.{_≡_, refl, sym, _∙_, ap, ap₂, subst}
 use mathlib.Core.Bool.{Bool, true, false, not}
@@ -29,16 +34,16 @@ use native.Mathlib.Nat.{le-refl}
 use native.Mathlib.Omega.{arith}
 use lib.Dec.{T, leb, leb→le, ltb, ltb→lt, nltb→le}
 use lib.Pow.{pow-pos}
-use lib.IntN.{ℤ, pos, negsuc, negℤ, natAbs, _+ℤ_, _*ℤ_}
+use lib.IntN.{ℤ, pos, negsuc, negℤ, natAbs, _+ℤ_, _-ℤ_, _*ℤ_}
 use lib.Signed.{_≤ℤ_, nonNeg, yes-nonNeg, pos-natAbs}
 use mir.Syntax.{Width, w8, w16, w32, w64, w128}
-use mir.Val.{SFits, Fits, bits, hbits, toZ, sel}
+use mir.Val.{SFits, Fits, bits, hbits, toZ, ofZ, sel}
 use mir.Facts.{toZ-ofZ, toZ-pos}
 use Rattle.integers.specs.Parts.{posPart, negPart}
 use Rattle.integers.specs.RingSolver.{Expr, _:+_, _:-_, _:*_, eval, normal, zero?, both, both-l, both-r, ring}
-use Rattle.integers.specs.Bounds.{Within, Between, within-between, between-within, between-add, between-neg, between-mul, between-lit, signed-between, between-fits, between-nonneg, between-wide}
+use Rattle.integers.specs.Bounds.{Within, in-neg, fits as within-fits, Between, within-between, between-within, between-add, between-neg, between-mul, between-lit, signed-between, between-fits, between-nonneg, between-wide}
 use Rattle.integers.specs.Certificates.{Cert}
-use Rattle.integers.specs.Quotes.{Quoted, q-mem, q-pos, q-negsuc, q-add, q-mul, q-neg, q-addℕ, q-mulℕ, q-read, q-word, q-bits, q-abs, code, pure?, code-ok, Member, index-ok, here, there}
+use Rattle.integers.specs.Quotes.{Quoted, q-mem, q-pos, q-negsuc, q-add, q-mul, q-neg, q-addℕ, q-mulℕ, q-read, q-word, q-bits, q-abs, code, pure?, code-ok, Member, index-ok, here, there, quotes, ring! }
 pub use Rattle.integers.specs.Quotes.{read, reads}
 use Rattle.integers.specs.Forms.{CheckForm, certified-form}
 use Rattle.integers.specs.Facts.{Checks, Reading, Claim, hyps, goal, sure, claim, claims, both₃, f-words, f-word, f-signed, f-unsigned, f-cast, b-words, b-word}
@@ -228,6 +233,20 @@ module _ {ρ : List ℤ} {bs : List Bound} (env : Env ρ bs) where
   machine-certify! h k m c t =
       claim reading k (both-l (sure (machine bs) k) (CheckForm (hyps k) (goal k) m c) t)
       (certified-form ρ (hyps k) (goal k) m c (both-r (sure (machine bs) k) (CheckForm (hyps k) (goal k) m c) t)) h
+
+-- ---- 0 − x
+minus : (z : ℤ) → pos 0 -ℤ z ≡ negℤ z
+minus z = ring! (z ∷ []) (search quotes depth 30) (search quotes depth 30) tt
+
+module _ (w : Width) {z : ℤ} {A : ℕ} (h : Within A z) (t : T (ltb A (2 ^ hbits w))) where
+  minus-read : pos 0 -ℤ toZ w (ofZ w z) ≡ negℤ z
+  minus-read = ap (λ x. pos 0 -ℤ x) (toZ-ofZ (within-fits h t)) ∙ minus z
+
+  pub negated-in : Within A (pos 0 -ℤ toZ w (ofZ w z))
+  negated-in = rw minus-read (in-neg h)
+
+  pub negated-is : toZ w (ofZ w (pos 0 -ℤ toZ w (ofZ w z))) ≡ negℤ z
+  negated-is = toZ-ofZ (within-fits negated-in t) ∙ minus-read
 
 -- ---- what any bits read as fits
 twice : (w : Width) → 2 ^ bits w ≡ 2 ^ hbits w + 2 ^ hbits w

@@ -4,14 +4,15 @@
 --     ≤ℤ-or-<ℤ, ≤ℤ-total, ≤ℤ-dec, <ℤ-dec                                     which of the two
 --     <ℤ→suc≤ℤ, suc≤ℤ→<ℤ                                                     x < y as x + 1 ≤ y
 --     sub-nonneg, nonneg-sub, sub-pos, pos-sub, +ℤ-mono                      differences and sums
---     mul-nonneg, mul-pos, square-nonneg, *ℤ-mono-l, *ℤ-mono-r               products
+--     neg-≤, un-≤, neg-<, un-<, neg-≤-iff, ltZ-neg                           negation turns the order about, to the negated numbers and from them, and the test x < y
+--     nonneg-pos, mul-nonneg, mul-pos, square-nonneg, *ℤ-mono-l, *ℤ-mono-r   numbers that are not negative; products
 --     pos-cancel-≤, pos-cancel-<, pos-cancel-≡, *ℤ-cancel-≤, *ℤ-cancel-<, *ℤ-cancel-≡   a positive factor cancelled
 --     by-ltZ                                                                 a branch on the test x < y, by what the test says of x and y
 --
 -- Example: `elim (≤ℤ-or-<ℤ x y) [ inl h ↦ .. | inr h ↦ .. ]` goes by whether x ≤ y or y < x; with h : pos 0 <ℤ d and k : (d *ℤ a) ≤ℤ (d *ℤ b), `*ℤ-cancel-≤ d h k : a ≤ℤ b`.
 -- Assumes nothing.
 use mathlib.Core.Path.{_≡_, refl, sym, _∙_, ap, subst}
-use mathlib.Core.Logic.{_⊎_, inl, inr}
+use mathlib.Core.Logic.{_⊎_, inl, inr, _↔_}
 use mathlib.Core.Bool.{Bool, true, false, not}
 use Prim.Native.Nat.{suc, _*_}
 use native.Mathlib.Nat as NatL
@@ -19,6 +20,7 @@ use native.Mathlib.Omega.{arith}
 use lib.Dec.{T}
 use lib.IntN.{ℤ, pos, negsuc, negℤ, natAbs, _+ℤ_, _-ℤ_, _*ℤ_, *ℤ-comm, negℤ-negℤ}
 use lib.Signed.{_≤ℤ_, _<ℤ_, leZ, ltZ, ltZ-no}
+use Rattle.integers.specs.Booleans.{T-ext}
 use Rattle.integers.specs.Parts.{parts-add, parts-sub, posPart-neg, negPart-neg, ≤-fromℕ, <-fromℕ, leZ-fromℕ, ints}
 use Rattle.integers.specs.RingLaws.{*ℤ-+, *ℤ-neg}
 
@@ -65,7 +67,26 @@ pub ≤ℤ-of-≡ : {x y : ℤ} → x ≡ y → x ≤ℤ y
 pub ≤ℤ-<ℤ-⊥ : {x y : ℤ} → x ≤ℤ y → y <ℤ x → ⊥
 ≤ℤ-<ℤ-⊥ h k = omega ints
 
--- which of the two
+-- ---- negation
+pub neg-≤ : {x y : ℤ} → x ≤ℤ y → negℤ y ≤ℤ negℤ x
+neg-≤ {x} {y} h = omega (ints, posPart-neg x, negPart-neg x, posPart-neg y, negPart-neg y)
+
+pub un-≤ : {x y : ℤ} → negℤ y ≤ℤ negℤ x → x ≤ℤ y
+un-≤ {x} {y} h = omega (ints, posPart-neg x, negPart-neg x, posPart-neg y, negPart-neg y)
+
+pub neg-< : {x y : ℤ} → x <ℤ y → negℤ y <ℤ negℤ x
+neg-< {x} {y} h = omega (ints, posPart-neg x, negPart-neg x, posPart-neg y, negPart-neg y)
+
+pub un-< : {x y : ℤ} → negℤ y <ℤ negℤ x → x <ℤ y
+un-< {x} {y} h = omega (ints, posPart-neg x, negPart-neg x, posPart-neg y, negPart-neg y)
+
+pub neg-≤-iff : (x y : ℤ) → (x ≤ℤ y) ↔ (negℤ y ≤ℤ negℤ x)
+neg-≤-iff x y = (neg-≤, un-≤)
+
+pub ltZ-neg : (x y : ℤ) → ltZ (negℤ y) (negℤ x) ≡ ltZ x y
+ltZ-neg x y = T-ext (λ t. un-< {x = x} {y = y} (record { lt = t }) .lt) (λ t. neg-< {x = x} {y = y} (record { lt = t }) .lt)
+
+-- ---- which of the two
 pub ≤ℤ-or-<ℤ : (x y : ℤ) → (x ≤ℤ y) ⊎ (y <ℤ x)
 ≤ℤ-or-<ℤ x y = by (leZ x y) refl
   where
@@ -107,19 +128,13 @@ pos-cancel-≤ {m} {x} h k = ⊎-pick (≤ℤ-or-<ℤ (pos 0) x)
   where
     ⊎-pick : (pos 0 ≤ℤ x) ⊎ (x <ℤ pos 0) → pos 0 ≤ℤ x
     ⊎-pick (inl a) = a
-    ⊎-pick (inr b) = absurd (≤ℤ-<ℤ-⊥ k (subst (λ z. z <ℤ pos 0) (negℤ-negℤ (m *ℤ x)) (neg-lt (subst (λ z. pos 0 <ℤ z) (*ℤ-neg m x) (mul-pos h (omega (ints, posPart-neg x, negPart-neg x)))))))
-      where
-        neg-lt : {z : ℤ} → pos 0 <ℤ z → negℤ z <ℤ pos 0
-        neg-lt {z} h = omega (ints, posPart-neg z, negPart-neg z)
+    ⊎-pick (inr b) = absurd (≤ℤ-<ℤ-⊥ k (subst (λ z. z <ℤ pos 0) (negℤ-negℤ (m *ℤ x)) (neg-< (subst (λ z. pos 0 <ℤ z) (*ℤ-neg m x) (mul-pos h (neg-< b))))))
 
 pub pos-cancel-< : {m x : ℤ} → pos 0 <ℤ m → pos 0 <ℤ (m *ℤ x) → pos 0 <ℤ x
 pos-cancel-< {m} {x} h k = ⊎-pick (≤ℤ-or-<ℤ x (pos 0))
   where
-    nneg : {z : ℤ} → pos 0 ≤ℤ negℤ z → z ≤ℤ pos 0
-    nneg {z} h = omega (ints, posPart-neg z, negPart-neg z)
-
     ⊎-pick : (x ≤ℤ pos 0) ⊎ (pos 0 <ℤ x) → pos 0 <ℤ x
-    ⊎-pick (inl b) = absurd (≤ℤ-<ℤ-⊥ (nneg (subst (λ z. pos 0 ≤ℤ z) (*ℤ-neg m x) (mul-nonneg (<ℤ→≤ℤ h) (omega (ints, posPart-neg x, negPart-neg x))))) k)
+    ⊎-pick (inl b) = absurd (≤ℤ-<ℤ-⊥ (un-≤ {y = pos 0} (subst (λ z. pos 0 ≤ℤ z) (*ℤ-neg m x) (mul-nonneg (<ℤ→≤ℤ h) (neg-≤ b)))) k)
     ⊎-pick (inr a) = a
 
 -- monotone products
@@ -135,12 +150,9 @@ pub *ℤ-cancel-≤ : {a b : ℤ} (k : ℤ) → pos 0 <ℤ k → (k *ℤ a) ≤�
 pub *ℤ-cancel-< : {a b : ℤ} (k : ℤ) → pos 0 <ℤ k → (k *ℤ a) <ℤ (k *ℤ b) → a <ℤ b
 *ℤ-cancel-< {a} {b} k h l = pos-sub (pos-cancel-< {x = b -ℤ a} h (subst (λ z. pos 0 <ℤ z) (sym (*ℤ-+ k b (negℤ a) ∙ ap (λ z. k *ℤ b +ℤ z) (*ℤ-neg k a))) (sub-pos l)))
 
-neg-flip : {z : ℤ} → pos 0 ≤ℤ negℤ z → z ≤ℤ pos 0
-neg-flip {z} h = omega (ints, posPart-neg z, negPart-neg z)
-
 pub pos-cancel-≡ : {m x : ℤ} → pos 0 <ℤ m → m *ℤ x ≡ pos 0 → x ≡ pos 0
 pos-cancel-≡ {m} {x} h e =
-    ≤ℤ-antisym (neg-flip (pos-cancel-≤ {x = negℤ x} h (≤ℤ-of-≡ (sym (*ℤ-neg m x ∙ ap negℤ e))))) (pos-cancel-≤ {x = x} h (≤ℤ-of-≡ (sym e)))
+    ≤ℤ-antisym (un-≤ {y = pos 0} (pos-cancel-≤ {x = negℤ x} h (≤ℤ-of-≡ (sym (*ℤ-neg m x ∙ ap negℤ e))))) (pos-cancel-≤ {x = x} h (≤ℤ-of-≡ (sym e)))
 
 pub *ℤ-cancel-≡ : {a b : ℤ} (k : ℤ) → pos 0 <ℤ k → k *ℤ a ≡ k *ℤ b → a ≡ b
 *ℤ-cancel-≡ {a} {b} k h e = ≤ℤ-antisym (*ℤ-cancel-≤ {a = a} {b = b} k h (≤ℤ-of-≡ e)) (*ℤ-cancel-≤ {a = b} {b = a} k h (≤ℤ-of-≡ (sym e)))

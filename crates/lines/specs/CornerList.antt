@@ -10,6 +10,7 @@
 --     corners-once           no entry stands twice
 --     corners-count          k ranges have at most 2k
 --     corners-mean           each line of the fit is a weighted mean of its entries
+--     corners-members, corners-known   its entries are those of `fitting rs`, and it is the only list in corner order, in lowest terms, of which that is so
 --     corners-unique         it is the only list in corner order with exactly these entries
 --
 -- Assumes nothing.
@@ -132,17 +133,18 @@ module _ {rs : List Range} {ls : List Line} (o : Ordered rs) (c : CornersOf rs l
           let e = reduced-is (All-in positive (a .among)) (record { positive = k .fit .positive; lowest = low }) (same-sym (a .holds)) in
           subst (λ ks. In l ks) (sym corners-are) (subst (λ y. In y (map reduced ls)) e (in-map reduced (a .among)))
 
-  pub corners-unique : (ks : List Line) → InCornerOrder ks → ((l : Line) → In l ks ↔ (Corner rs l × InLowestTerms (l .p) (l .q) (l .d))) → ks ≡ corners rs
+  pub corners-members : SameMembers (fitting rs) (corners rs)
+  corners-members = subst (SameMembers (fitting rs)) (sym corners-are) fitting-members
+
+  pub corners-known : (ks : List Line) → InCornerOrder ks → All Proper ks → SameMembers (fitting rs) ks → ks ≡ corners rs
   unfolding corners
-  corners-unique ks order exact = sym (ap cornerOrder extreme-idle ∙ cornerOrder-of order (record { proper = proper; rising = fitting-rising rs o; members = members }))
+  corners-known ks order proper members = sym (ap cornerOrder extreme-idle ∙ cornerOrder-of order (record { proper = proper; rising = fitting-rising rs o; members = members }))
+
+  pub corners-unique : (ks : List Line) → InCornerOrder ks → ((l : Line) → In l ks ↔ (Corner rs l × InLowestTerms (l .p) (l .q) (l .d))) → ks ≡ corners rs
+  corners-unique ks order exact = corners-known ks order proper members
     where
       proper : All Proper ks
       proper = All-of ks (λ l i. record { positive = exact l .0 i .0 .fit .positive; lowest = exact l .0 i .1 })
 
       members : SameMembers (fitting rs) ks
-      members =
-          same-members-trans fitting-members
-          (record {
-            into = λ l i. exact l .1 (corners-exact l .0 (subst (In l) (sym corners-are) i));
-            back = λ l i. subst (In l) corners-are (corners-exact l .1 (exact l .0 i));
-          })
+      members = same-members-trans corners-members (record { into = λ l i. exact l .1 (corners-exact l .0 i); back = λ l i. corners-exact l .1 (exact l .0 i) })

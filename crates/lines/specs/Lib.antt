@@ -9,6 +9,10 @@ pub mod Diagonal
 pub mod CornerFacts
 pub mod CornerList
 pub mod OutlookTimes
+pub mod Mirrored
+pub mod MirroredFit
+pub mod MirroredOutlook
 pub mod Polygon
+pub mod MirroredCorners
 pub mod RunOutlook
 pub mod Theorems

@@ -1,33 +1,68 @@
--- The outlook of a run of two or more ranges, by the polygon's two lines: what a program has to compute, and what it means.
+-- The outlook of a run of two or more ranges, by the polygon's two lines: what a program has to compute, and what it means. For a direction that is the number 0 or 1; the falling case is the rising one of the mirror image.
 --
+--     leading, trailing          the line that decides *some*, and the line that decides *all*: rising, the fast one and the slow one; falling, the other way round
 --     first-last                 the first and the last of the fitting lines are the polygon's slow and fast line
---     outlook-by-lines           the outlook is these two in lowest terms, with the time at which fast reaches the level and the time at which slow does
---     OutlookMeans, outlook-means   the slow line has the least slope of the whole fit and the fast line the greatest; *some* and *all* are the least times of the scope, over all lines of the fit
+--     OutlookMeans, outlook-means   the slow line has the least slope of the whole fit and the fast line the greatest; *some* and *all* are the least times of the scope, over all lines of the fit, and each is the time of one line
+--     outlook-by-lines           the outlook is the polygon's two lines in lowest terms, with the time at which the leading one reaches the level and the time at which the trailing one does
 --
 -- Assumes nothing.
-use mathlib.Core.Path.{_≡_, refl, sym, subst}
-use mathlib.Core.Logic.{inl, inr}
+use mathlib.Core.Path.{_≡_, refl, sym, subst, _∙_, ap, ap₂}
+use mathlib.Core.Logic.{inl, inr, _↔_}
 use mathlib.Core.List.{List, [], _∷_, getLastD}
-use Prim.Native.Nat.{ℕ, _≤_}
+use Prim.Native.Nat.{ℕ, zero, suc, _≤_}
+use native.Mathlib.Omega.{arith}
 use lib.Dec.{T}
+use lib.IntN.{ℤ, negℤ}
 use Rattle.integers.specs.OrderLaws.{<ℤ→≤ℤ, ≤ℤ-of-≡}
 use Rattle.integers.specs.Lists.{All, cons, Any, In, here, in-last, not-in-nil, All-in, All-imp}
-use Rattle.integers.specs.Least.{IsLeast}
+use Rattle.integers.specs.Least.{IsLeast, least-iff}
 use Rattle.integers.specs.Sorting.{Rising, rising-head, rising-last}
-use Rattle.definitions.specs.Services.{Service}
-use Rattle.definitions.specs.Spans.{mostTime}
+use Rattle.definitions.specs.Services.{Direction, rising, falling, directionOf, Service}
+use Rattle.definitions.specs.Spans.{mostTime, mostDirection}
 use Rattle.definitions.specs.Times.{Time}
 use Rattle.definitions.specs.Ranges.{Range}
 use Rattle.definitions.specs.Lines.{Line}
 use Rattle.definitions.specs.Corners.{reduced, before, fitting}
-use Rattle.definitions.specs.Fit.{InFit, HasLine, Ordered, SameLine, SomeReaches, AllReach}
-use Rattle.definitions.specs.Outlook.{someTime, allTime, lines, endTime, outlook, outlookOf}
+use Rattle.definitions.specs.Fit.{InFit, HasLine, Ordered, SameLine, Reached, SomeReached, AllReached}
+use Rattle.definitions.specs.Outlook.{someTime, allTime, Outlook, open-strip, lines, endTime, outlook, outlookOf}
+use Rattle.definitions.specs.Mirrors.{mirroredLine, mirroredRange, opposite, mirroredService, mirroredOutlook}
 use Rattle.chains.specs.Points.{SlopeAtMost}
+use Rattle.chains.specs.Mirror.{negL-negL, neg-slope≤}
 use Rattle.chains.specs.Results.{slow, fast, cornerList, slow-fits, fast-fits, slow-least, fast-greatest, slow-only, fast-only, slow-listed, fast-listed, corners-fit, corners-candidates}
-use Rattle.lines.specs.LineOrder.{Proper, same-refl, same-sym, same-trans, reduced-same, reduced-proper, reduced-alike, reduced-is, reduced-restates, restates-refl, restates-sym, InFit-same, slope-same, order-≤, before-means, Precedes, by-slope, by-intercept}
+use Rattle.lines.specs.LineOrder.{Proper, same-refl, same-sym, same-trans, reduced-same, reduced-proper, reduced-alike, reduced-is, Restates, reduced-restates, restates-refl, restates-sym, InFit-same, slope-same, order-≤, before-means, Precedes, by-slope, by-intercept}
 use Rattle.lines.specs.FittingLines.{in-fitting, fitting-rising, fitting-proper, fitting-fit}
-use Rattle.lines.specs.OutlookTimes.{Listed, reachTime, some-least, all-least, outlook-reduced}
+use Rattle.lines.specs.OutlookTimes.{rises, Listed, reachTime, reachTime-same, some-least, all-least, some-by-fast, all-by-slow}
+use Rattle.lines.specs.Mirrored.{mirrored, reached-mirrored, reachTime-mirrored}
+use Rattle.lines.specs.MirroredFit.{InFit-mirrored, InFit-back, HasLine-mirrored, ordered-mirrored, proper-mirrored}
+use Rattle.lines.specs.MirroredOutlook.{end-mirrored, outlook-mirrored, mirrored-twice}
 use Rattle.lines.specs.Polygon.{extremes-of}
+
+abbrev pub leading : Direction → Line → Line → Line
+leading rising slow fast = fast
+leading falling slow fast = slow
+
+abbrev pub trailing : Direction → Line → Line → Line
+trailing rising slow fast = slow
+trailing falling slow fast = fast
+
+pub record OutlookMeans (v : Service) (rs : List Range) (from : ℕ) (k l : Line) (some all : Time) : Type 0 where
+  pub slow-proper : Proper k
+  pub slow-fit : InFit rs k
+  pub slow-least : (m : Line) → InFit rs m → SlopeAtMost k m
+  pub fast-proper : Proper l
+  pub fast-fit : InFit rs l
+  pub fast-greatest : (m : Line) → InFit rs m → SlopeAtMost m l
+  pub some-is : IsLeast (SomeReached rs v) from mostTime some
+  pub all-is : IsLeast (AllReached rs v) from mostTime all
+  pub some-by : some ≡ reachTime v from (leading (directionOf (v .direction)) k l)
+  pub all-by : all ≡ reachTime v from (trailing (directionOf (v .direction)) k l)
+
+-- an outlook that has two lines, and means this
+abbrev MeansOf : Service → List Range → ℕ → Outlook → Type 0
+MeansOf v rs from open-strip = ⊥
+MeansOf v rs from (lines k l early late) = OutlookMeans v rs from k l early late
+
+-- ---- the polygon's lines are the first and the last
 
 precedes-slope : {k l : Line} → Precedes k l → SlopeAtMost k l
 precedes-slope (by-slope h) = <ℤ→≤ℤ h
@@ -46,16 +81,6 @@ first-least k ks r = cons (slope-refl k) (All-imp (before-slope k) (rising-head 
 last-greatest : (k : Line) (ks : List Line) → Rising before (k ∷ ks) → All (λ m. SlopeAtMost m (getLastD ks k)) (k ∷ ks)
 last-greatest k ks r =
     All-imp (λ m a. elim a [ inl e ↦ subst (λ l. SlopeAtMost m l) e (slope-refl m) | inr t ↦ before-slope m (getLastD ks k) t ]) (rising-last before k ks r)
-
-pub record OutlookMeans (v : Service) (rs : List Range) (from : ℕ) (k l : Line) (some all : Time) : Type 0 where
-  pub slow-proper : Proper k
-  pub slow-fit : InFit rs k
-  pub slow-least : (m : Line) → InFit rs m → SlopeAtMost k m
-  pub fast-proper : Proper l
-  pub fast-fit : InFit rs l
-  pub fast-greatest : (m : Line) → InFit rs m → SlopeAtMost m l
-  pub some-is : IsLeast (SomeReaches rs v) from mostTime some
-  pub all-is : IsLeast (AllReach rs v) from mostTime all
 
 module _ (r s : Range) (ws : List Range) (o : Ordered (r ∷ s ∷ ws)) (h : HasLine (r ∷ s ∷ ws)) where
   -- a line that the polygon lists is, in lowest terms, one of the fitting lines
@@ -109,13 +134,6 @@ module _ (r s : Range) (ws : List Range) (o : Ordered (r ∷ s ∷ ws)) (h : Has
             last = sym (reduced-is (fast-fits r s ws o h .positive) (All-in proper (in-last k ks)) (same-sym (fast-only r s ws o h m m-fit m-slope)));
           }
 
-  module _ (late : endTime s ws ≤ mostTime) (v : Service) where
-    pub outlook-by-lines : outlook v (r ∷ s ∷ ws)
-        ≡ lines (reduced (slow r s ws)) (reduced (fast r s ws)) (reachTime v (endTime s ws) (fast r s ws)) (reachTime v (endTime s ws) (slow r s ws))
-    outlook-by-lines =
-        let e = first-last in
-        outlook-reduced r s ws (extremes-of r s ws o h) (fitting-fit (r ∷ s ∷ ws) o) late (e .is) v (e .first) (e .last)
-
   listed : Listed (r ∷ s ∷ ws) (slow r s ws) (fast r s ws) (fitting (r ∷ s ∷ ws))
   listed =
       record {
@@ -124,30 +142,144 @@ module _ (r s : Range) (ws : List Range) (o : Ordered (r ∷ s ∷ ws)) (h : Has
         has-fast = record { entry = reduced (fast r s ws); among = fast-in; holds = reduced-same (fast r s ws) (fast-fits r s ws o h .positive) };
       }
 
-  -- the outlook of a run, and what it means of all lines of the fit
-  pub outlook-means : (v : Service) → (k : Line) × (l : Line) × (some : Time) × (all : Time) × (outlook v (r ∷ s ∷ ws) ≡ lines k l some all) × OutlookMeans v (r ∷ s ∷ ws) (endTime s ws) k l some all
-  unfolding outlook outlookOf
-  outlook-means v =
-      let e = first-last in
-      let from = endTime s ws in
-      let ls = fitting (r ∷ s ∷ ws) in
-      (e .line, getLastD (e .more) (e .line), someTime v from ls, allTime v from ls, shown e, means e)
-    where
-      shown : (e : FirstLast) → outlook v (r ∷ s ∷ ws) ≡ lines (e .line) (getLastD (e .more) (e .line)) (someTime v (endTime s ws) (fitting (r ∷ s ∷ ws))) (allTime v (endTime s ws) (fitting (r ∷ s ∷ ws)))
-      shown e =
-          subst (λ ls. outlookOf v (endTime s ws) ls ≡ lines (e .line) (getLastD (e .more) (e .line)) (someTime v (endTime s ws) ls) (allTime v (endTime s ws) ls)) (sym (e .is)) refl
+  slow-restates : Restates (slow r s ws) (reduced (slow r s ws))
+  slow-restates = reduced-restates (slow-fits r s ws o h .positive)
 
-      means : (e : FirstLast) → OutlookMeans v (r ∷ s ∷ ws) (endTime s ws) (e .line) (getLastD (e .more) (e .line)) (someTime v (endTime s ws) (fitting (r ∷ s ∷ ws))) (allTime v (endTime s ws) (fitting (r ∷ s ∷ ws)))
-      means e =
-          let f = slow-fits r s ws o h in
-          let g = fast-fits r s ws o h in
+  fast-restates : Restates (fast r s ws) (reduced (fast r s ws))
+  fast-restates = reduced-restates (fast-fits r s ws o h .positive)
+
+  shown : (v : Service) → outlook v (r ∷ s ∷ ws)
+      ≡ lines (reduced (slow r s ws)) (reduced (fast r s ws)) (someTime v (endTime s ws) (fitting (r ∷ s ∷ ws))) (allTime v (endTime s ws) (fitting (r ∷ s ∷ ws)))
+  unfolding outlook outlookOf
+  shown v = by first-last
+    where
+      by : FirstLast → outlook v (r ∷ s ∷ ws) ≡ lines (reduced (slow r s ws)) (reduced (fast r s ws)) (someTime v (endTime s ws) (fitting (r ∷ s ∷ ws))) (allTime v (endTime s ws) (fitting (r ∷ s ∷ ws)))
+      by e =
+          subst (λ ls. outlookOf v (endTime s ws) ls ≡ lines (e .line) (getLastD (e .more) (e .line)) (someTime v (endTime s ws) ls) (allTime v (endTime s ws) ls)) (sym (e .is)) refl
+          ∙ ap₂ (λ j m. lines j m (someTime v (endTime s ws) (fitting (r ∷ s ∷ ws))) (allTime v (endTime s ws) (fitting (r ∷ s ∷ ws)))) (e .first) (e .last)
+
+  -- ---- a rising trace
+  rising-means : (level : ℤ) → MeansOf (rises level) (r ∷ s ∷ ws) (endTime s ws) (outlook (rises level) (r ∷ s ∷ ws))
+  unfolding directionOf
+  rising-means level = subst (MeansOf (rises level) (r ∷ s ∷ ws) (endTime s ws)) (sym (shown (rises level))) means
+    where
+      means : OutlookMeans (rises level) (r ∷ s ∷ ws) (endTime s ws) (reduced (slow r s ws)) (reduced (fast r s ws))
+          (someTime (rises level) (endTime s ws) (fitting (r ∷ s ∷ ws))) (allTime (rises level) (endTime s ws) (fitting (r ∷ s ∷ ws)))
+      means =
+          let x = extremes-of r s ws o h in
           record {
-            slow-proper = subst Proper (sym (e .first)) (reduced-proper (slow r s ws) (f .positive));
-            slow-fit = subst (InFit (r ∷ s ∷ ws)) (sym (e .first)) (InFit-same (reduced-restates (f .positive)) f);
-            slow-least = λ m k. subst (λ l. SlopeAtMost l m) (sym (e .first)) (order-≤ (slope-same {k = slow r s ws} {k′ = reduced (slow r s ws)} {l = m} {l′ = m} (reduced-restates (f .positive)) (restates-refl (k .positive))) (slow-least r s ws o h m k));
-            fast-proper = subst Proper (sym (e .last)) (reduced-proper (fast r s ws) (g .positive));
-            fast-fit = subst (InFit (r ∷ s ∷ ws)) (sym (e .last)) (InFit-same (reduced-restates (g .positive)) g);
-            fast-greatest = λ m k. subst (λ l. SlopeAtMost m l) (sym (e .last)) (order-≤ (slope-same {k = m} {k′ = m} {l = fast r s ws} {l′ = reduced (fast r s ws)} (restates-refl (k .positive)) (reduced-restates (g .positive))) (fast-greatest r s ws o h m k));
-            some-is = some-least (extremes-of r s ws o h) listed v;
-            all-is = all-least (extremes-of r s ws o h) listed v;
+            slow-proper = reduced-proper (slow r s ws) (slow-fits r s ws o h .positive);
+            slow-fit = InFit-same slow-restates (slow-fits r s ws o h);
+            slow-least = λ m k. order-≤ (slope-same {l = m} {l′ = m} slow-restates (restates-refl (k .positive))) (slow-least r s ws o h m k);
+            fast-proper = reduced-proper (fast r s ws) (fast-fits r s ws o h .positive);
+            fast-fit = InFit-same fast-restates (fast-fits r s ws o h);
+            fast-greatest = λ m k. order-≤ (slope-same {k = m} {k′ = m} (restates-refl (k .positive)) fast-restates) (fast-greatest r s ws o h m k);
+            some-is = some-least x listed level;
+            all-is = all-least x listed level;
+            some-by = some-by-fast x listed level ∙ reachTime-same (rises level) (endTime s ws) fast-restates;
+            all-by = all-by-slow x listed level ∙ reachTime-same (rises level) (endTime s ws) slow-restates;
           }
+
+-- ---- from the mirror image
+
+leading-mirrored : (n : ℕ) → n ≤ mostDirection → (k l : Line) → leading (directionOf (opposite n)) k l ≡ mirroredLine (leading (directionOf n) (mirroredLine l) (mirroredLine k))
+unfolding directionOf
+leading-mirrored zero good k l = sym (negL-negL k)
+leading-mirrored (suc zero) good k l = sym (negL-negL l)
+leading-mirrored (suc (suc n)) good k l = absurd (omega arith)
+
+trailing-mirrored : (n : ℕ) → n ≤ mostDirection → (k l : Line) → trailing (directionOf (opposite n)) k l ≡ mirroredLine (trailing (directionOf n) (mirroredLine l) (mirroredLine k))
+unfolding directionOf
+trailing-mirrored zero good k l = sym (negL-negL l)
+trailing-mirrored (suc zero) good k l = sym (negL-negL k)
+trailing-mirrored (suc (suc n)) good k l = absurd (omega arith)
+
+module _ (v : Service) (good : v .direction ≤ mostDirection) (rs : List Range) where
+  some-back : (t : ℕ) → SomeReached (mirrored rs) (mirroredService v) t ↔ SomeReached rs v t
+  some-back t = (
+    λ x. record {
+      line = mirroredLine (x .line);
+      fit = InFit-back rs (x .line) (x .fit);
+      reached = reached-mirrored v good t (mirroredLine (x .line)) .1 (subst (Reached (mirroredService v) t) (sym (negL-negL (x .line))) (x .reached));
+    },
+    λ x. record { line = mirroredLine (x .line); fit = InFit-mirrored (x .fit); reached = reached-mirrored v good t (x .line) .0 (x .reached) },
+  )
+
+  all-back : (t : ℕ) → AllReached (mirrored rs) (mirroredService v) t ↔ AllReached rs v t
+  all-back t = (
+    λ every l f. reached-mirrored v good t l .1 (every (mirroredLine l) (InFit-mirrored f)),
+    λ every l f. subst (Reached (mirroredService v) t) (negL-negL l) (reached-mirrored v good t (mirroredLine l) .0 (every (mirroredLine l) (InFit-back rs l f))),
+  )
+
+  means-mirrored : (from : ℕ) {k l : Line} {some all : Time} → OutlookMeans (mirroredService v) (mirrored rs) from k l some all → OutlookMeans v rs from (mirroredLine l) (mirroredLine k) some all
+  means-mirrored from {k} {l} x =
+      record {
+        slow-proper = proper-mirrored (x .fast-proper);
+        slow-fit = InFit-back rs l (x .fast-fit);
+        slow-least = λ m f. subst (λ j. SlopeAtMost (mirroredLine l) j) (negL-negL m) (neg-slope≤ (mirroredLine m) l (x .fast-greatest (mirroredLine m) (InFit-mirrored f)));
+        fast-proper = proper-mirrored (x .slow-proper);
+        fast-fit = InFit-back rs k (x .slow-fit);
+        fast-greatest = λ m f. subst (λ j. SlopeAtMost j (mirroredLine k)) (negL-negL m) (neg-slope≤ k (mirroredLine m) (x .slow-least (mirroredLine m) (InFit-mirrored f)));
+        some-is = least-iff (λ t a b. some-back t) (x .some-is);
+        all-is = least-iff (λ t a b. all-back t) (x .all-is);
+        some-by = x .some-by ∙ ap (reachTime (mirroredService v) from) (leading-mirrored (v .direction) good k l) ∙ reachTime-mirrored v good from (leading (directionOf (v .direction)) (mirroredLine l) (mirroredLine k));
+        all-by = x .all-by ∙ ap (reachTime (mirroredService v) from) (trailing-mirrored (v .direction) good k l) ∙ reachTime-mirrored v good from (trailing (directionOf (v .direction)) (mirroredLine l) (mirroredLine k));
+      }
+
+  means-back : (from : ℕ) (x : Outlook) → MeansOf (mirroredService v) (mirrored rs) from x → MeansOf v rs from (mirroredOutlook x)
+  unfolding mirroredOutlook
+  means-back from open-strip m = m
+  means-back from (lines k l early late) m = means-mirrored from m
+
+-- ---- either direction
+module _ (r s : Range) (ws : List Range) (o : Ordered (r ∷ s ∷ ws)) (h : HasLine (r ∷ s ∷ ws)) where
+  by-direction : (level : ℤ) (n : ℕ) → n ≤ mostDirection
+      → MeansOf (record { level = level; direction = n }) (r ∷ s ∷ ws) (endTime s ws) (outlook (record { level = level; direction = n }) (r ∷ s ∷ ws))
+  by-direction level zero good = rising-means r s ws o h level
+  by-direction level (suc zero) good =
+      let v : Service = record { level = level; direction = 1 } in
+      let run = r ∷ s ∷ ws in
+      let image = rising-means (mirroredRange r) (mirroredRange s) (mirrored ws) (ordered-mirrored run o) (HasLine-mirrored h) (negℤ level) in
+      let from-end = subst (λ n. MeansOf (mirroredService v) (mirrored run) n (outlook (mirroredService v) (mirrored run))) (end-mirrored s ws) image in
+      subst (MeansOf v run (endTime s ws)) (ap mirroredOutlook (outlook-mirrored v good run o) ∙ mirrored-twice (outlook v run))
+      (means-back v good run (endTime s ws) (outlook (mirroredService v) (mirrored run)) from-end)
+  by-direction level (suc (suc n)) good = absurd (omega arith)
+
+  module _ (v : Service) (good : v .direction ≤ mostDirection) where
+    run-means : OutlookMeans v (r ∷ s ∷ ws) (endTime s ws) (reduced (slow r s ws)) (reduced (fast r s ws)) (someTime v (endTime s ws) (fitting (r ∷ s ∷ ws))) (allTime v (endTime s ws) (fitting (r ∷ s ∷ ws)))
+    run-means = subst (MeansOf v (r ∷ s ∷ ws) (endTime s ws)) (shown r s ws o h v) (by-direction (v .level) (v .direction) good)
+
+    -- the outlook of a run, and what it means of all lines of the fit
+    pub outlook-means : (k : Line) × (l : Line) × (some : Time) × (all : Time) × (outlook v (r ∷ s ∷ ws) ≡ lines k l some all) × OutlookMeans v (r ∷ s ∷ ws) (endTime s ws) k l some all
+    outlook-means = (
+      reduced (slow r s ws),
+      reduced (fast r s ws),
+      someTime v (endTime s ws) (fitting (r ∷ s ∷ ws)),
+      allTime v (endTime s ws) (fitting (r ∷ s ∷ ws)),
+      shown r s ws o h v,
+      run-means,
+    )
+
+    -- the times are of the lines as they are, before they are reduced
+    pub outlook-by-lines : outlook v (r ∷ s ∷ ws)
+        ≡ lines (reduced (slow r s ws)) (reduced (fast r s ws))
+        (reachTime v (endTime s ws) (leading (directionOf (v .direction)) (slow r s ws) (fast r s ws)))
+        (reachTime v (endTime s ws) (trailing (directionOf (v .direction)) (slow r s ws) (fast r s ws)))
+    outlook-by-lines =
+        shown r s ws o h v
+        ∙ ap₂ (lines (reduced (slow r s ws)) (reduced (fast r s ws))) (run-means .some-by ∙ as-is (directionOf (v .direction)) .0) (run-means .all-by ∙ as-is (directionOf (v .direction)) .1)
+      where
+        from : ℕ
+        from = endTime s ws
+
+        by-slow : reachTime v from (reduced (slow r s ws)) ≡ reachTime v from (slow r s ws)
+        by-slow = sym (reachTime-same v from (slow-restates r s ws o h))
+
+        by-fast : reachTime v from (reduced (fast r s ws)) ≡ reachTime v from (fast r s ws)
+        by-fast = sym (reachTime-same v from (fast-restates r s ws o h))
+
+        as-is : (e : Direction)
+            → (reachTime v from (leading e (reduced (slow r s ws)) (reduced (fast r s ws))) ≡ reachTime v from (leading e (slow r s ws) (fast r s ws)))
+            × (reachTime v from (trailing e (reduced (slow r s ws)) (reduced (fast r s ws))) ≡ reachTime v from (trailing e (slow r s ws) (fast r s ws)))
+        as-is rising = (by-fast, by-slow)
+        as-is falling = (by-slow, by-fast)

@@ -15,7 +15,11 @@
 --     side-above, side-below     the determinant `side` is above 0, or below 0, exactly if a line's intercept is greater, or smaller, than that of the diagonal's line of its slope
 --     corner-order-iff           so the corner order of the definitions is that of `Diagonal`
 -- The outlook of two or more ranges that have a line
---     outlook-means              its lines have the least and the greatest slope of the fit, its times are the least at which some and all lines of the fit reach the level (RunOutlook)
+--     outlook-means              its lines have the least and the greatest slope of the fit, its times are the least at which some and all lines of the fit have reached the level (RunOutlook)
+-- The mirror image of a trace: level, lows and highs negated, lows and highs exchanged, the direction turned
+--     segmentsOf-mirrored        its segments have the same times and counts, *some* and *all* as those of the trace; slow is the image of fast, and fast that of slow (MirroredOutlook)
+--     segments-mirrored          the segments of the image are the images of the segments (MirroredFit)
+--     corners-mirrored           the corners are the same ring, negated, begun at the corner of greatest slope (MirroredCorners)
 -- The segments: demand 3
 --     segments-split             they are a split
 --     segments-times, segments-ranges   the times given are those of the first and the last range of each, and its ranges are those from the one time to the other

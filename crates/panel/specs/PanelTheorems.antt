@@ -43,7 +43,7 @@ use Rattle.definitions.specs.Answers.{refused, accepted, _if_, firstRow}
 use Rattle.definitions.specs.Ranges.{Range, Lists}
 use Rattle.definitions.specs.Services.{Service}
 use Rattle.definitions.specs.Times.{none}
-use Rattle.definitions.specs.Trial.{outside, badAddress, tooShort, rangeRows}
+use Rattle.definitions.specs.Trial.{badAddress, tooShort, rangeRows}
 use Rattle.definitions.specs.Results.{segmentsOf}
 use Rattle.definitions.specs.Calls.{segmentCall}
 use Rattle.definitions.specs.Panels.{Panel, Taken, totalHeld, onPanel, headRanges, lastTime, commonTaken, heldBy, unknown, crowded}
@@ -51,7 +51,7 @@ use Rattle.definitions.specs.PanelCalls.{roomOf, panelRows, addRows, entriesAft
 use Rattle.trial_laws.specs.CallLaws.{along, bind-refused}
 use Rattle.trial_laws.specs.ShortLists.{long-split, long-join}
 use Rattle.trial_laws.specs.RangeLists.{listsOf, firstEntries}
-use Rattle.trial_laws.specs.Accepted.{ProperRanges}
+use Rattle.trial_laws.specs.Accepted.{GoodService, ProperRanges}
 use Rattle.panel_laws.specs.PanelRows.{ownRows}
 use Rattle.panel_laws.specs.Strangers.{stranger-not}
 use Rattle.panel_laws.specs.AddLaws.{AllEmpty, none-held, nothing-on, IsPanel, Starts, starts-panel, held-added, counts-added, stays-panel}
@@ -109,11 +109,11 @@ module _ {start : Panel} {xs : List Taken} {s : Panel} {a : ℕ} {old new : List
   pub ranges-given : Starts start → unknown a (start .entries) ≡ false → tooShort panelRoom (lengthsOf old) ≡ false → headRangesMeaning answer ≡ accepted (length (headRanges a xs))
   ranges-given starts is-known long = Given.call-passes promise (course-panel course (starts-panel starts)) (known-course a course ∙ is-known) long ∙ ap (λ rs. accepted (length rs)) (Given.own-course a (starts .empty) course)
 
-  pub own-segments : {n : ℕ} (rooms : List ℕ) (v : Service) → AllEmpty (start .entries) → headRangesMeaning answer ≡ accepted n → tooShort segmentRoom rooms ≡ false → outside (v .level) ≡ false → segmentCall rooms v (firstEntries n new) ≡ accepted (segmentsOf v (headRanges a xs))
-  own-segments rooms v empty e room level =
+  pub own-segments : {n : ℕ} (rooms : List ℕ) (v : Service) → AllEmpty (start .entries) → headRangesMeaning answer ≡ accepted n → tooShort segmentRoom rooms ≡ false → GoodService v → segmentCall rooms v (firstEntries n new) ≡ accepted (segmentsOf v (headRanges a xs))
+  own-segments rooms v empty e room good =
       let passed = Given.call-passed promise e in
       let most = Given.few-own a empty course (passed .0) (passed .1) in
-      ap (segmentCall rooms v) (Given.entries-first (given-ranges empty e)) ∙ Given.segments-given rooms v (headRanges a xs) (proper-own course a empty) (omega (arith, most)) room level
+      ap (segmentCall rooms v) (Given.entries-first (given-ranges empty e)) ∙ Given.segments-given rooms v (headRanges a xs) (proper-own course a empty) (omega (arith, most)) room good
 
 pub own-only : {start start′ : Panel} {xs xs′ : List Taken} {s s′ : Panel} {a : ℕ} {old old′ new new′ : Lists} {answer answer′ : HeadRangesAnswer} {n n′ : ℕ} → AllEmpty (start .entries) → AllEmpty (start′ .entries) → Course start xs s → Course start′ xs′ s′ → headRanges a xs ≡ headRanges a xs′
     → HeadRangesPromise s a old new answer → HeadRangesPromise s′ a old′ new′ answer′ → headRangesMeaning answer ≡ accepted n → headRangesMeaning answer′ ≡ accepted n′ → (n ≡ n′) × (firstEntries n new ≡ firstEntries n′ new′)

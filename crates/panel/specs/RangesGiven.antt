@@ -24,7 +24,7 @@ use Rattle.definitions.specs.Spans.{segmentRoom, panelRoom}
 use Rattle.definitions.specs.Answers.{Answer, refused, accepted, _>>=_, firstRow, filled}
 use Rattle.definitions.specs.Ranges.{Range, Lists, rangesOf}
 use Rattle.definitions.specs.Services.{Service}
-use Rattle.definitions.specs.Trial.{outside, tooShort}
+use Rattle.definitions.specs.Trial.{tooShort}
 use Rattle.definitions.specs.Results.{segmentsOf}
 use Rattle.definitions.specs.Calls.{segmentCall}
 use Rattle.definitions.specs.Panels.{Panel, Taken, onPanel, headRanges, heldBy, unknown}
@@ -33,7 +33,7 @@ use Rattle.trial_laws.specs.Rows.{first-row-accepted}
 use Rattle.trial_laws.specs.CallLaws.{call-accepted, bind-refused}
 use Rattle.trial_laws.specs.ShortLists.{long-split, long-join}
 use Rattle.trial_laws.specs.RangeLists.{same-length, firstEntries, listsOf, ranges-of-lists, lists-alike}
-use Rattle.trial_laws.specs.Accepted.{ProperRanges, accepted-lists, segment-accepted}
+use Rattle.trial_laws.specs.Accepted.{ProperRanges, GoodService, accepted-lists, segment-accepted}
 use Rattle.panel_laws.specs.AddLaws.{AllEmpty, nothing-on, IsPanel}
 use Rattle.panel_laws.specs.HeldLaws.{held-is, most-held}
 use Rattle.panel.specs.declared.HeadRangesAnswer.{HeadRangesAnswer}
@@ -144,11 +144,11 @@ module _ (a : ℕ) {start : Panel} {xs : List Taken} {s : Panel} (empty : AllEmp
 
 -- ---- Segment
 
-pub segments-given : (rooms : List ℕ) (v : Service) (rs : List Range) → ProperRanges rs → length rs ≤ 4096 → tooShort segmentRoom rooms ≡ false → outside (v .level) ≡ false → segmentCall rooms v (listsOf rs) ≡ accepted (segmentsOf v rs)
+pub segments-given : (rooms : List ℕ) (v : Service) (rs : List Range) → ProperRanges rs → length rs ≤ 4096 → tooShort segmentRoom rooms ≡ false → GoodService v → segmentCall rooms v (listsOf rs) ≡ accepted (segmentsOf v rs)
 unfolding segmentCall _>>=_ listsOf
-segments-given rooms v rs proper few room level =
+segments-given rooms v rs proper few room good =
     let ls = listsOf rs in
     let lists = accepted-lists ls (same-length ls .0 (lists-alike rs)) (subst ProperRanges (sym (ranges-of-lists rs)) proper) in
     let as-many = length-map rs (λ (r : Range). r .time) in
-    let passes = segment-accepted rooms v ls .1 (room, level, lists, omega (arith, as-many, few)) in
+    let passes = segment-accepted rooms v ls .1 (room, good, lists, omega (arith, as-many, few)) in
     ap (λ (x : Answer Unit). x >>= λ ok. accepted (segmentsOf v (rangesOf ls))) passes ∙ ap (λ ss. accepted (segmentsOf v ss)) (ranges-of-lists rs)

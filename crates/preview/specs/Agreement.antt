@@ -1,6 +1,6 @@
 -- Preview against Segment on the lists with the range added: on the way to the front page `PreviewTheorems`.
 --
---     rows-same, rows-pass             Segment's rows on slices that are long enough are Preview's; what is known where none of Segment's holds
+--     rows-same                        Segment's rows on slices that are long enough are Preview's
 --     none-segmented, none-meant       none holds where Segment accepted
 --     longer-some                      Segment gives at least one segment of the longer lists
 --     last-told                        and its last row has the outlook that Preview gives
@@ -23,7 +23,7 @@ use Rattle.definitions.specs.Segments.{segments}
 use Rattle.definitions.specs.Outlook.{Outlook, open-strip, outlook}
 use Rattle.definitions.specs.Results.{Segment, segmentsOf, segmentOf}
 use Rattle.definitions.specs.Answers.{accepted}
-use Rattle.definitions.specs.Trial.{outside, tooShort, listRows, segmentRows}
+use Rattle.definitions.specs.Trial.{tooShort, listRows, segmentRows}
 use Rattle.definitions.specs.Previews.{Effect, joins, begins, longer, lastOutlook, effectOf, effectOutlook, previewRows}
 use Rattle.splits.specs.Effects.{grown, segments-some, segmentsOf-length}
 use Rattle.trial_laws.specs.Rows.{NoneHolds, refused-not-accepted}
@@ -42,10 +42,10 @@ pub rows-same : (lengths : List ℕ) (v : Service) (ls : Lists) → tooShort seg
 unfolding segmentRows listRows tooShort any
 rows-same lengths v ls e = rw e refl
 
--- no row of Segment holds, so its slices are long enough and the level is inside its span
-pub rows-pass : (lengths : List ℕ) (v : Service) (ls : Lists) → NoneHolds (segmentRows lengths v ls) → (tooShort segmentRoom lengths ≡ false) × (outside (v .level) ≡ false)
+-- no row of Segment holds, so its slices are long enough
+long-enough : (lengths : List ℕ) (v : Service) (ls : Lists) → NoneHolds (segmentRows lengths v ls) → tooShort segmentRoom lengths ≡ false
 unfolding segmentRows listRows
-rows-pass lengths v ls none = (none .0, none .1 .1 .1 .0)
+long-enough lengths v ls none = none .0
 
 -- Segment accepted
 pub none-segmented : {v : Service} {ls : Lists} {old new : Columns} {m : ℕ} → SegmentPromise v ls old new (Accepted m) → NoneHolds (segmentRows (lengths old) v ls)
@@ -81,7 +81,7 @@ module _ {v : Service} {ls : Lists} {r : Range} {answer : PreviewAnswer} (promis
   none-previewed : NoneHolds (previewRows v ls r)
   none-previewed =
       let none = none-segmented segmented in
-      subst NoneHolds (rows-same (lengths old) v (longer ls r) (rows-pass (lengths old) v (longer ls r) none .0)) none
+      subst NoneHolds (rows-same (lengths old) v (longer ls r) (long-enough (lengths old) v (longer ls r) none)) none
 
   longer-count : m ≡ length (segments (rs ++ (r ∷ [])))
   longer-count = count-is segmented ∙ segmentsOf-length v (rangesOf (longer ls r)) ∙ ap (λ l. length (segments l)) (ranges-given promise none-previewed)

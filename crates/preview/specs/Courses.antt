@@ -26,14 +26,13 @@ use Rattle.trial_laws.specs.CallLaws.{accepted-is}
 use Rattle.trial_laws.specs.RangeLists.{zeroRange, rangeAt, ranges-length, ranges-at, firstEntries, first-ranges}
 use Rattle.values.specs.Meanings.{outlookOf}
 use Rattle.drift.specs.declared.SegmentAnswer.the-variants.{Accepted}
-use Rattle.drift.specs.Columns.{Columns, lengths}
+use Rattle.drift.specs.Columns.{Columns}
 use Rattle.drift.specs.SegmentPromise.{SegmentPromise}
-use Rattle.drift.specs.GivenColumns.{taken, taken-few}
+use Rattle.drift.specs.GivenColumns.{taken-good, taken, taken-few}
 use Rattle.preview.specs.declared.PreviewAnswer.{PreviewAnswer}
 use Rattle.preview.specs.declared.PreviewAnswer.the-variants.{Joins, Begins, Refused}
 use Rattle.preview.specs.PreviewPromise.{previewMeaning, PreviewPromise}
 use Rattle.preview.specs.GivenEffects.{effect-given}
-use Rattle.preview.specs.Agreement.{rows-pass, none-segmented}
 use Rattle.preview.specs.FirstRanges.{first-rows}
 
 pub record Course (v : Service) (ls : Lists) (answers : List PreviewAnswer) : Type 0 where
@@ -73,8 +72,7 @@ module _ {v : Service} {ls : Lists} {answers : List PreviewAnswer} (course : Cou
   -- the k-th answer tells the k-th effect
   effect-at : (k : ℕ) → k < length (ls .times) → previewMeaning (getD answers k (Refused 0)) ≡ accepted (getD (effects v rs) k (joins open-strip))
   effect-at k h =
-      let level = rows-pass (lengths old) v ls (none-segmented segmented) .1 in
-      let none = first-rows (taken segmented) v level (taken-few segmented) k h in
+      let none = first-rows (taken segmented) v (taken-good segmented) (taken-few segmented) k h in
       let next-taken = sym (take-suc rs k zeroRange (omega (arith, many)) ∙ ap (λ r. take k rs ++ (r ∷ [])) (ranges-at ls (taken segmented .same) k)) in
       effect-given (course .each k h) none
       ∙ ap (λ l. accepted (effectAfter v l (rangeAt ls k))) (first-ranges k ls)

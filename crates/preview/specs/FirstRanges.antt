@@ -4,7 +4,6 @@
 --
 -- Assumes nothing.
 use mathlib.Core.Path.{_≡_, sym, _∙_, subst}
-use mathlib.Core.Bool.{false}
 use mathlib.Core.List.{List}
 use Prim.Native.Nat.{ℕ, suc, _<_, _≤_}
 use native.Mathlib.Omega.{arith}
@@ -16,12 +15,11 @@ use Rattle.definitions.specs.Services.{Service}
 use Rattle.definitions.specs.Spans.{mostRanges}
 use Rattle.definitions.specs.Ranges.{Range, Lists, rangesOf}
 use Rattle.definitions.specs.Fit.{Ordered}
-use Rattle.definitions.specs.Trial.{outside}
 use Rattle.definitions.specs.Previews.{longer, previewRows}
 use Rattle.splits.specs.OrderedRanges.{ordered-left}
 use Rattle.trial_laws.specs.Rows.{NoneHolds, first-row-accepted}
 use Rattle.trial_laws.specs.RangeLists.{SameLength, rangeAt, firstEntries, first-ranges}
-use Rattle.trial_laws.specs.Accepted.{ProperRange, ProperRanges, AcceptedLists, accepted-lists}
+use Rattle.trial_laws.specs.Accepted.{GoodService, ProperRange, ProperRanges, AcceptedLists, accepted-lists}
 use Rattle.trial_laws.specs.LongerLists.{preview-accepted}
 
 module _ (ls : Lists) (same : SameLength ls) (k : ℕ) where
@@ -54,9 +52,9 @@ module _ {ls : Lists} (a : AcceptedLists ls) where
   first-accepted : (k : ℕ) → k ≤ length (ls .times) → AcceptedLists (firstEntries k ls)
   first-accepted k h = accepted-lists (firstEntries k ls) (first-same ls (a .same) k h) (subst ProperRanges (sym (first-ranges k ls)) (proper-first k (rangesOf ls) (a .ranges)))
 
-  pub first-rows : (v : Service) → outside (v .level) ≡ false → length (ls .times) ≤ mostRanges → (k : ℕ) → k < length (ls .times) → NoneHolds (previewRows v (firstEntries k ls) (rangeAt ls k))
+  pub first-rows : (v : Service) → GoodService v → length (ls .times) ≤ mostRanges → (k : ℕ) → k < length (ls .times) → NoneHolds (previewRows v (firstEntries k ls) (rangeAt ls k))
   unfolding firstEntries
-  first-rows v level few k h =
+  first-rows v good few k h =
       first-row-accepted (previewRows v (firstEntries k ls) (rangeAt ls k)) .0
       (preview-accepted v (firstEntries k ls) (rangeAt ls k) .1
-      (level, subst AcceptedLists (sym (first-longer ls (a .same) k h)) (first-accepted (suc k) (omega arith)), omega (arith, length-take-le k (ls .times) (omega arith))))
+      (good, subst AcceptedLists (sym (first-longer ls (a .same) k h)) (first-accepted (suc k) (omega arith)), omega (arith, length-take-le k (ls .times) (omega arith))))

@@ -1,6 +1,6 @@
 -- The effect of a range that is not refused, from the run that code found, and how Preview keeps its promise.
 --
---     Unrefused          where no row holds and the lists are not empty: the level is inside its span, the lists with the range are acceptable and have room, and its time is at most 4,294,967,295
+--     Unrefused          where no row holds and the lists are not empty: the service is good, the lists with the range are acceptable and have room
 --     effect-on          the effect on the lists is that after their ranges
 --     EffectGiven        the answer is the effect of the range
 --     given-closed       the last run ends before the range: it begins a segment, which is open
@@ -11,7 +11,6 @@
 --
 -- Assumes nothing.
 use mathlib.Core.Path.{_≡_, refl, sym, ap, _∙_, subst}
-use mathlib.Core.Bool.{false}
 use mathlib.Core.List.{List, [], _∷_, _++_}
 use Prim.Native.Nat.{ℕ, _+_, _-_, _≤_, _<_}
 use native.Mathlib.Nat.{le-refl, le-of-lt}
@@ -19,7 +18,7 @@ use native.Mathlib.Omega.{arith}
 use lib.ListN.{length}
 use lib.Seq.{take-all}
 use Rattle.integers.specs.Booleans.{T→true, ¬T→false}
-use Rattle.definitions.specs.Spans.{mostTime, mostRanges}
+use Rattle.definitions.specs.Spans.{mostRanges}
 use Rattle.definitions.specs.Services.{Service}
 use Rattle.definitions.specs.Ranges.{Range, Lists, rangesOf}
 use Rattle.definitions.specs.Fit.{HasLine, Ordered}
@@ -28,10 +27,9 @@ use Rattle.definitions.specs.Segments.{segments, runningAfter}
 use Rattle.definitions.specs.Outlook.{outlook}
 use Rattle.definitions.specs.Results.{segmentsOf}
 use Rattle.definitions.specs.Answers.{Answer, refused, accepted, _>>=_, firstRow}
-use Rattle.definitions.specs.Trial.{outside}
 use Rattle.definitions.specs.Previews.{longer, joins, effectOf, previewRows, previewCall}
 use Rattle.trial_laws.specs.RangeLists.{SameLength, rangeAt, ranges-length}
-use Rattle.trial_laws.specs.Accepted.{AcceptedLists}
+use Rattle.trial_laws.specs.Accepted.{GoodService, AcceptedLists}
 use Rattle.trial_laws.specs.LongerLists.{longer-length, longer-ranges, longer-last, shorter-accepted, effectOn, preview-by-rows}
 use Rattle.splits.specs.Effects.{effectAfter, effect-first, effect-joins, effect-begins}
 use Rattle.lines.specs.Polygon.{decides}
@@ -52,11 +50,10 @@ use Rattle.preview.specs.PreviewPromise.{previewMeaning, PreviewPromise}
 use Rattle.preview.specs.LongerRuns.{run-longer, RunWith}
 
 pub record Unrefused (v : Service) (ls : Lists) (r : Range) : Type 0 where
-  pub level-inside : outside (v .level) ≡ false
+  pub good : GoodService v
   pub lists-accepted : AcceptedLists (longer ls r)
   pub room : length (ls .times) < mostRanges
   pub some : 0 < length (ls .times)
-  pub time-in : r .time ≤ mostTime
 
 pub effect-on : (v : Service) (ls : Lists) (r : Range) → SameLength ls → effectOn v ls r ≡ effectAfter v (rangesOf ls) r
 effect-on v ls r same = ap (λ rs. effectOf (length (segments (rangesOf ls))) (segmentsOf v rs)) (longer-ranges ls r same)
@@ -134,7 +131,7 @@ module _ {v : Service} {ls : Lists} {r : Range} (u : Unrefused v ls r) where
       unfolding previewMeaning
       given-joined {o} e =
           let joined = effect-on v ls r same ∙ effect-joins v (rangesOf ls) r some-ranges (T→true (decides .passes (last ++ (r ∷ [])) order line)) in
-          let seen = run-outlook a (omega (arith, longer-length ls r)) f (omega (arith, z .begins, end-is)) (subst (λ t. t ≤ mostTime) (sym time-is) (u .time-in)) v in
+          let seen = run-outlook a (omega (arith, longer-length ls r)) f (omega (arith, z .begins, end-is)) v (u .good) in
           record {
             answer-is =
                 ap (λ o. accepted (joins o))

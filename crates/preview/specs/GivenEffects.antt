@@ -37,7 +37,7 @@ use Rattle.lines.specs.Theorems.{has-line}
 use Rattle.trial_laws.specs.Rows.{NoneHolds, first-row-accepted}
 use Rattle.trial_laws.specs.CallLaws.{call-accepted}
 use Rattle.trial_laws.specs.RangeLists.{SameLength, ranges-length}
-use Rattle.trial_laws.specs.Accepted.{AcceptedLists}
+use Rattle.trial_laws.specs.Accepted.{GoodService, AcceptedLists}
 use Rattle.trial_laws.specs.LongerLists.{longer-same, longer-ranges, effectOn, preview-by-rows, preview-accepted}
 use Rattle.preview.specs.declared.PreviewAnswer.{PreviewAnswer}
 use Rattle.preview.specs.PreviewPromise.{previewMeaning, PreviewPromise}
@@ -75,16 +75,16 @@ pub record LinesOf (v : Service) (run : List Range) (from : ℕ) (o : Outlook) :
   pub is : o ≡ lines slow fast some all
   pub means : OutlookMeans v run from slow fast some all
 
-run-lines : (v : Service) (run : List Range) → 2 ≤ length run → Ordered run → HasLine run → LinesOf v run (lastTimeOf run) (outlook v run)
+run-lines : (v : Service) → GoodService v → (run : List Range) → 2 ≤ length run → Ordered run → HasLine run → LinesOf v run (lastTimeOf run) (outlook v run)
 unfolding lastTimeOf endTime
-run-lines v [] two o h = absurd (omega arith)
-run-lines v (r ∷ []) two o h = absurd (omega arith)
-run-lines v (r ∷ s ∷ ws) two o h = let (k, l, x, y, e, means) = outlook-means r s ws o h v in record { slow = k; fast = l; some = x; all = y; is = e; means = means }
+run-lines v good [] two o h = absurd (omega arith)
+run-lines v good (r ∷ []) two o h = absurd (omega arith)
+run-lines v good (r ∷ s ∷ ws) two o h = let (k, l, x, y, e, means) = outlook-means r s ws o h v (good .direction-in) in record { slow = k; fast = l; some = x; all = y; is = e; means = means }
 
-grown-outlook : (v : Service) (rs : List Range) (r : Range) → 0 < length rs → Ordered (rs ++ (r ∷ [])) → HasLine (grown rs r) → LinesOf v (grown rs r) (r .time) (outlook v (grown rs r))
+grown-outlook : (v : Service) → GoodService v → (rs : List Range) (r : Range) → 0 < length rs → Ordered (rs ++ (r ∷ [])) → HasLine (grown rs r) → LinesOf v (grown rs r) (r .time) (outlook v (grown rs r))
 unfolding lastTimeOf endTime
-grown-outlook v rs r h o line =
-    subst (λ t. LinesOf v (grown rs r) t (outlook v (grown rs r))) (last-append (lastRun (segments rs)) r []) (run-lines v (grown rs r) (grown-two rs r h) (grown-ordered rs r o) line)
+grown-outlook v good rs r h o line =
+    subst (λ t. LinesOf v (grown rs r) t (outlook v (grown rs r))) (last-append (lastRun (segments rs)) r []) (run-lines v good (grown rs r) (grown-two rs r h) (grown-ordered rs r o) line)
 
 -- ---- the effect given
 
@@ -124,6 +124,9 @@ module _ {v : Service} {ls : Lists} {r : Range} {answer : PreviewAnswer} (promis
   none-given e f = call-accepted (previewRows v ls r) (effectOn v ls r) e .0 (sym answered ∙ f) .0
 
   module _ (none : NoneHolds (previewRows v ls r)) where
+    good : GoodService v
+    good = preview-accepted v ls r .0 (first-row-accepted (previewRows v ls r) .1 none) .0
+
     taken : AcceptedLists (longer ls r)
     taken = preview-accepted v ls r .0 (first-row-accepted (previewRows v ls r) .1 none) .1
 
@@ -149,7 +152,7 @@ module _ {v : Service} {ls : Lists} {r : Range} {answer : PreviewAnswer} (promis
         by : Next v rs r → Given v ls r answer
         by (next-joins some test is count) =
             let line = line-iff .0 (true→T test) in
-            given-joins (omega (arith, ranges-length ls same)) (grown-outlook v rs r some rising line) line (effect-given ∙ ap accepted is) count
+            given-joins (omega (arith, ranges-length ls same)) (grown-outlook v good rs r some rising line) line (effect-given ∙ ap accepted is) count
         by (next-begins (inl e) is count) = given-begins (inl (omega (arith, ranges-length ls same))) (effect-given ∙ ap accepted is) count
         by (next-begins (inr test) is count) = given-begins (inr (λ line. false→¬T test (line-iff .1 line))) (effect-given ∙ ap accepted is) count
 

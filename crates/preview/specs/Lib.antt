@@ -7,3 +7,4 @@ pub mod GivenEffects
 pub mod Agreement
 pub mod Courses
 pub mod PreviewTheorems
+pub mod Mirror

@@ -64,6 +64,7 @@ fn effect(v: Service, times: &[u32], lows: &[i32], highs: &[i32], r: Range) -> P
 // The scope's Preview.
 pub fn preview(
     level: i32,
+    direction: u32,
     times: &[u32],
     lows: &[i32],
     highs: &[i32],
@@ -71,9 +72,9 @@ pub fn preview(
     low: i32,
     high: i32,
 ) -> PreviewAnswer
-    ensures { λ r. ⌜ PreviewPromise (record { level = level }) (record { times = now (times .entry); lows = now (lows .entry); highs = now (highs .entry) }) (record { time = time; low = low; high = high }) r ⌝ }
+    ensures { λ r. ⌜ PreviewPromise (record { level = level; direction = direction }) (record { times = now (times .entry); lows = now (lows .entry); highs = now (highs .entry) }) (record { time = time; low = low; high = high }) r ⌝ }
 {
-    let outside = trial::value_outside(level);
+    let outside = trial::service_outside(level, direction);
     let number = trial::try_longer(outside, times, lows, highs, time, low, high);
     if number != 0 {
         return PreviewAnswer::Refused(number);
@@ -81,7 +82,7 @@ pub fn preview(
     if times.len() == 0 {
         return PreviewAnswer::Begins(Outlook::Open);
     }
-    let v = Service { level };
+    let v = Service { level, direction };
     let r = Range { time, low, high };
     effect(v, times, lows, highs, r)
 }

@@ -1,18 +1,10 @@
 // The address field with each length, and with each fault of its length or its value.
-use definitions::limits::READ_ROOM;
+use crate::alone::read_alone;
 use fields::numbers::write_u8;
 use fields::numbers::write_u32;
 use fields::parts::part;
 use trace_testing::making::put_level;
-use trace_testing::reading::tell_read;
 use trace_testing::telling::title_of_three;
-
-fn read_alone(file: &[u8]) {
-    let mut times = [1u32; READ_ROOM];
-    let mut lows = [2i32; READ_ROOM];
-    let mut highs = [3i32; READ_ROOM];
-    tell_read(file, &mut times, &mut lows, &mut highs);
-}
 
 // Reads a file without ranges. Its address field has this length; the body is a, b and 0, as many of these as the length says.
 fn read_field(length: u8, a: u8, b: u8) {

@@ -11,6 +11,7 @@ use mathlib.Core.List.{List, [], _++_}
 use lib.IntN.{ℤ}
 use lib.ListN.{length, replicate}
 use Rattle.definitions.specs.Spans.{segmentRoom}
+use Rattle.definitions.specs.Services.{Service}
 use Rattle.definitions.specs.Ranges.{Lists}
 use Rattle.definitions.specs.Lines.{Line}
 use Rattle.definitions.specs.Results.{Segment, rowLength}
@@ -37,5 +38,5 @@ unfoldable pub answerText : ℕ → ℤ → ℕ → Answer (List Segment) → Li
 answerText address level ranges (refused n) = refusedLine n
 answerText address level ranges (accepted ss) = traceLine address level ranges (length ss) ++ segmentLines 1 ss
 
-unfoldable pub listsText : ℕ → ℤ → Lists → List ℕ
-listsText address level ls = answerText address level (length (ls .times)) (segmentCall (replicate rowLength segmentRoom) (record { level = level }) ls)
+unfoldable pub listsText : ℕ → Service → Lists → List ℕ
+listsText address v ls = answerText address (v .level) (length (ls .times)) (segmentCall (replicate rowLength segmentRoom) v ls)

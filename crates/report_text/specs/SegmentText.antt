@@ -26,7 +26,7 @@ use Rattle.values.specs.RowLaws.{rows-back}
 use Rattle.drift.specs.declared.SegmentAnswer.the-variants.{Accepted, Refused}
 use Rattle.drift.specs.Columns.{Columns, rowAt, lengths}
 use Rattle.drift.specs.SegmentPromise.{segmentMeaning, SegmentPromise}
-use Rattle.drift.specs.GivenColumns.{called, taken, taken-few, ordered, count-is, row-at}
+use Rattle.drift.specs.GivenColumns.{taken-good, called, taken, taken-few, ordered, count-is, row-at}
 use Rattle.report_text.specs.Lines.{linesFrom, answerText, listsText}
 
 -- ---- lists
@@ -59,7 +59,7 @@ module _ {v : Service} {ls : Lists} {old new : Columns} {n : ℕ} (promise : Seg
   lines-so-far zero h = refl
   lines-so-far (suc k) h =
       let s = getD ss k (segmentOf v []) in
-      let line : segmentFrom (rowAt new k) ≡ s = ap segmentFrom (row-at promise k (omega arith)) ∙ rows-back v rs (ordered promise) k in
+      let line : segmentFrom (rowAt new k) ≡ s = ap segmentFrom (row-at promise k (omega arith)) ∙ rows-back v (taken-good promise .direction-in) rs (ordered promise) k in
       let long : 1 + length (take k ss) ≡ suc k = omega (arith, length-take-le k ss (omega (arith, count-is promise, h))) in
       ap₂ (λ front t. front ++ segmentLine (suc k) t) (lines-so-far k (omega arith)) line
       ∙ ap (λ m. segmentLines 1 (take k ss) ++ segmentLine m s) (sym long)
@@ -69,7 +69,7 @@ module _ {v : Service} {ls : Lists} {old new : Columns} {n : ℕ} (promise : Seg
   pub lines-given : linesFrom new n ≡ segmentLines 1 ss
   lines-given = lines-so-far n (omega arith) ∙ ap (segmentLines 1) (take-all n ss (omega (arith, count-is promise)))
 
-  pub text-accepted : (address : ℕ) → lengths old ≡ replicate rowLength segmentRoom → listsText address (v .level) ls ≡ traceLine address (v .level) (length (ls .times)) n ++ linesFrom new n
+  pub text-accepted : (address : ℕ) → lengths old ≡ replicate rowLength segmentRoom → listsText address v ls ≡ traceLine address (v .level) (length (ls .times)) n ++ linesFrom new n
   unfolding listsText answerText
   text-accepted address room =
       ap (λ r. answerText address (v .level) (length (ls .times)) (segmentCall r v ls)) (sym room)
@@ -77,7 +77,7 @@ module _ {v : Service} {ls : Lists} {old new : Columns} {n : ℕ} (promise : Seg
       ∙ ap₂ (λ m l. traceLine address (v .level) (length (ls .times)) m ++ l) (sym (count-is promise)) (sym lines-given)
 
 pub text-refused : {v : Service} {ls : Lists} {old new : Columns} {e : ℕ} → SegmentPromise v ls old new (Refused e) → (address : ℕ) → lengths old ≡ replicate rowLength segmentRoom
-    → listsText address (v .level) ls ≡ refusedLine e
+    → listsText address v ls ≡ refusedLine e
 unfolding listsText answerText segmentMeaning
 text-refused {v} {ls} {old} {new} {e} promise address room =
     let refuses = bind-refused (segmentCall (lengths old) v ls) length e (sym (promise .answer-is)) in

@@ -37,6 +37,7 @@ pub fn report(file: &[u8], text: &mut [u8]) -> ReportAnswer
                 text,
                 known.address,
                 known.level,
+                known.direction,
                 &times[..n],
                 &lows[..n],
                 &highs[..n],

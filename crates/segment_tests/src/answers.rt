@@ -111,7 +111,7 @@ fn see_all(
 
 // Calls Segment, and writes all there is to its answer. The slices are as long as they have to be, but for one of
 // them, counted from 0, that is one too short; from 11 on, none is.
-pub fn tell(short: usize, level: i32, times: &[u32], lows: &[i32], highs: &[i32]) {
+pub fn tell(short: usize, level: i32, direction: u32, times: &[u32], lows: &[i32], highs: &[i32]) {
     let mut first_times = [OLD; SEGMENT_ROOM];
     let mut last_times = [OLD; SEGMENT_ROOM];
     let mut counts = [OLD; SEGMENT_ROOM];
@@ -125,6 +125,7 @@ pub fn tell(short: usize, level: i32, times: &[u32], lows: &[i32], highs: &[i32]
     let mut alls = [OLD_LONG; SEGMENT_ROOM];
     let answer = segment(
         level,
+        direction,
         times,
         lows,
         highs,

@@ -21,6 +21,7 @@ fn lists(name: &[u8], shape: Shape, first: u64, gap: u64, level: i32, n: usize, 
     tell(
         11,
         level,
+        0,
         first_times(&times, n),
         first_values(&lows, n),
         first_values(&highs, highs_n),

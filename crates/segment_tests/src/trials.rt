@@ -1,5 +1,5 @@
-// Trials from text. A line is a remark, which begins with `#`, or the level and the slice that is one too short, and
-// the three lists. Without a second number no slice is too short.
+// Trials from text. A line is a remark, which begins with `#`, or the level, the slice that is one too short and the
+// direction, and the three lists. Without a second number no slice is too short, without a third the trace rises.
 use crate::answers::tell;
 use fields::numbers::signed;
 use fields::parts::byte_at;
@@ -12,7 +12,7 @@ use testing::trials::place;
 use testing::trials::read_line;
 
 fn trial(line: &[u8]) {
-    let mut params = [0u32, 11];
+    let mut params = [0u32, 11, 0];
     let mut times = [0u32; 64];
     let mut lows = [0i32; 64];
     let mut highs = [0i32; 64];
@@ -20,6 +20,7 @@ fn trial(line: &[u8]) {
     tell(
         place(params[1]),
         signed(params[0]),
+        params[2],
         first_times(&times, r.times),
         first_values(&lows, r.lows),
         first_values(&highs, r.highs),

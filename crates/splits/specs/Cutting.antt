@@ -14,12 +14,14 @@
 --     cut-resume                       cutting goes on from the last run of the first k elements
 --     cut-front                        the runs of a front that ends inside a run: those before, and the run up to there
 --     cut-take, lastRun-take           the same of the first k elements, of which the k-th is in the run
+--     cut-map                          of a list of images, by a test that passes the images of the runs that another test passes: the images of the runs
+--     lastRun-map                      the last of the images of some runs is the image of the last
 --
 -- Example: with e : good (lastRun (cut good xs) ++ (x ∷ [])) ≡ true, `lastRun-joins good xs x e` says that x joins the last run.
 -- Assumes nothing.
 use mathlib.Core.Path.{_≡_, refl, sym, ap, ap₂, _∙_, subst}
 use mathlib.Core.Bool.{Bool, true, false}
-use mathlib.Core.List.{List, [], _∷_, _++_, flatten, dropLast, append-nil, concat-ne-nil, head-eq-of-cons-eq, tail-eq-of-cons-eq, nil≢cons}
+use mathlib.Core.List.{List, [], _∷_, _++_, map, flatten, dropLast, append-nil, map-append, concat-ne-nil, head-eq-of-cons-eq, tail-eq-of-cons-eq, nil≢cons}
 use Prim.Native.Nat.{ℕ, _+_, _-_, _≤_, _<_}
 use native.Mathlib.Omega.{arith}
 use lib.ListN.{length, take, drop, length-append, take-append-drop}
@@ -254,3 +256,37 @@ module _ {A : Type 0} where
     pub lastRun-take : (k : ℕ) (xs : List A) (before : List (List A)) (run : List A) (after : List (List A)) → cut good xs ≡ before ++ (run ∷ after)
         → length (flatten before) < k → k ≤ length (flatten before) + length run → lastRun (cut good (take k xs)) ≡ take (k - length (flatten before)) run
     lastRun-take k xs before run after e over within = ap lastRun (cut-take k xs before run after e over within) ∙ lastRun-snoc before (take (k - length (flatten before)) run)
+
+-- ---- a list of images
+pub lastRun-map : {A B : Type 0} (f : A → B) (runs : List (List A)) → lastRun (map (map f) runs) ≡ map f (lastRun runs)
+unfolding lastRun
+lastRun-map f [] = refl
+lastRun-map f (run ∷ []) = refl
+lastRun-map f (run ∷ next ∷ runs) = lastRun-map f (next ∷ runs)
+
+module _ {A B : Type 0} (f : A → B) (good : List A → Bool) (image : List B → Bool) (same : (xs : List A) → image (map f xs) ≡ good xs) where
+  from-map : (run xs : List A) → cutFrom image (map f run) (map f xs) ≡ map (map f) (cutFrom good run xs)
+  from-map run [] = cutFrom-nil image (map f run) ∙ sym (ap (map (map f)) (cutFrom-nil good run))
+  from-map run (x ∷ xs) = by (good (run ++ (x ∷ []))) refl (λ next. from-map next xs)
+    where
+      longer : map f (run ++ (x ∷ [])) ≡ map f run ++ (f x ∷ [])
+      longer = map-append f run (x ∷ [])
+
+      test : image (map f run ++ (f x ∷ [])) ≡ good (run ++ (x ∷ []))
+      test = ap image (sym longer) ∙ same (run ++ (x ∷ []))
+
+      by : (b : Bool) → good (run ++ (x ∷ [])) ≡ b → ((next : List A) → cutFrom image (map f next) (map f xs) ≡ map (map f) (cutFrom good next xs))
+          → cutFrom image (map f run) (f x ∷ map f xs) ≡ map (map f) (cutFrom good run (x ∷ xs))
+      by true e rest =
+          cutFrom-joins image (map f run) (f x) (map f xs) (test ∙ e)
+          ∙ ap (λ next. cutFrom image next (map f xs)) (sym longer)
+          ∙ rest (run ++ (x ∷ []))
+          ∙ sym (ap (map (map f)) (cutFrom-joins good run x xs e))
+      by false e rest =
+          cutFrom-begins image (map f run) (f x) (map f xs) (test ∙ e)
+          ∙ ap (λ runs. map f run ∷ runs) (cut-cons image (f x) (map f xs) ∙ rest (x ∷ []) ∙ ap (map (map f)) (sym (cut-cons good x xs)))
+          ∙ sym (ap (map (map f)) (cutFrom-begins good run x xs e))
+
+  pub cut-map : (xs : List A) → cut image (map f xs) ≡ map (map f) (cut good xs)
+  cut-map [] = cut-nil image ∙ sym (ap (map (map f)) (cut-nil good))
+  cut-map (x ∷ xs) = cut-cons image (f x) (map f xs) ∙ from-map (x ∷ []) xs ∙ ap (map (map f)) (sym (cut-cons good x xs))

@@ -8,3 +8,4 @@ pub mod Accepted
 pub mod ByPlace
 pub mod ShortLists
 pub mod LongerLists
+pub mod MirroredTrial

@@ -34,7 +34,7 @@ use Rattle.definitions.specs.Ranges.{Range, Lists, zipRanges, rangesOf}
 use Rattle.definitions.specs.Segments.{segments}
 use Rattle.definitions.specs.Results.{segmentsOf}
 use Rattle.definitions.specs.Answers.{Row, _if_, accepted, _>>=_, firstRow}
-use Rattle.definitions.specs.Trial.{outside, rangeRows, rangesRows, tooShort, differ}
+use Rattle.definitions.specs.Trial.{rangeRows, rangesRows, tooShort, differ}
 use Rattle.definitions.specs.Panels.{lastTime}
 use Rattle.definitions.specs.Calls.{segmentCall}
 use Rattle.definitions.specs.Previews.{longer, Effect, effectOf, previewRows, previewCall}
@@ -42,8 +42,8 @@ use Rattle.trial_laws.specs.Rows.{accepted-append}
 use Rattle.trial_laws.specs.CallLaws.{then-then}
 use Rattle.trial_laws.specs.LeastTime.{timeBefore, timeBefore-suc}
 use Rattle.trial_laws.specs.RangeLists.{SameLength, rangeAt, same-length}
-use Rattle.trial_laws.specs.ListTrial.{trialRows, segment-trial}
-use Rattle.trial_laws.specs.Accepted.{ProperRange, AcceptedLists, range-accepted, proper-accepted, accepted-lists, segment-accepted}
+use Rattle.trial_laws.specs.ListTrial.{trialRows, badService, segment-trial}
+use Rattle.trial_laws.specs.Accepted.{GoodService, ProperRange, AcceptedLists, range-accepted, proper-accepted, accepted-lists, segment-accepted}
 
 -- ---- lengths
 
@@ -143,11 +143,11 @@ module _ (v : Service) (ls : Lists) (r : Range) where
   unfolding previewCall segmentCall _>>=_
   preview-by-rows = then-then (firstRow (previewRows v ls r)) (λ ok. accepted (segmentsOf v (rangesOf (longer ls r)))) (λ ss. accepted (effectOf (length (segments (rangesOf ls))) ss))
 
-  pub preview-trial : firstRow (previewRows v ls r) ≡ firstRow (trialRows false (outside (v .level)) (longer ls r))
+  pub preview-trial : firstRow (previewRows v ls r) ≡ firstRow (trialRows false (badService v) (longer ls r))
   unfolding tooShort any
   preview-trial = segment-trial [] v (longer ls r)
 
-  pub preview-accepted : (firstRow (previewRows v ls r) ≡ accepted tt) ↔ ((outside (v .level) ≡ false) × AcceptedLists (longer ls r) × (length (ls .times) < mostRanges))
+  pub preview-accepted : (firstRow (previewRows v ls r) ≡ accepted tt) ↔ (GoodService v × AcceptedLists (longer ls r) × (length (ls .times) < mostRanges))
   preview-accepted =
       let tried = segment-accepted [] v (longer ls r) in
       (λ e. let h = tried .0 e in (h .1, h .2, omega (arith, h .3, longer-length ls r)), λ h. tried .1 (no-slice, h .0, h .1, omega (arith, h .2, longer-length ls r)))

@@ -1,69 +1,101 @@
--- When a line reaches a level, by the tests that tell it.
+-- When a line rises to a level, by the tests that tell it; and the mirror image of a line, as code makes it.
 --
 --     reach-now                  it does at `from`, where it is not below then
 --     reach-falling              never, where it is below then and does not rise
 --     crossingOf                 the time at which p·t + q is the level's or more for a line that rises: (d·level − q)/p rounded up
 --     crossing-nonneg            it is not below 0, where the line is below at `from`
 --     reach-rising, reach-late   it does at that time, or never where that is past the greatest time
---     look-by                    the outlook of two lines, from the lines and times that a program has of them
+--     look-rising, look-falling  the outlook of two lines, from the lines and times that a program has of them
+--     mirrored-by                the line that code makes with −p and −q, each as 0 − x, is the mirror image
 --
 -- Assumes nothing.
 use mathlib.Core.Path.{_≡_, sym, ap, _∙_}
 use Prim.Native.Nat.{ℕ, _≤_, _<_}
 use native.Mathlib.Nat as NatL
 use native.Mathlib.Omega.{arith}
+use mir.Syntax.{w64}
 use lib.IntN.{ℤ, pos, natAbs, _-ℤ_, _*ℤ_}
 use lib.Signed.{_≤ℤ_, _<ℤ_}
 use Rattle.integers.specs.Parts.{ints}
+use Rattle.integers.specs.Bounds.{in-neg}
+use Rattle.integers.specs.Machine.{negated-is}
 use Rattle.integers.specs.Rounding.{ceilDiv}
 use Rattle.integers.specs.Least.{IsLeast, least-at, least-unique}
-use Rattle.integers.specs.Crossing.{Reaches, crossing, crossing-after, reach-after, reach-too-late, reach-never, firstReach-is}
+use Rattle.integers.specs.Crossing.{Reaches, crossing, crossing-after, reach-after, reach-too-late, reach-never}
 use Rattle.definitions.specs.Spans.{mostTime}
 use Rattle.definitions.specs.Times.{Time, none, at}
-use Rattle.definitions.specs.Services.{Service}
+use Rattle.definitions.specs.Services.{Service, rising, falling, directionOf}
 use Rattle.definitions.specs.Lines.{Line, reading}
 use Rattle.definitions.specs.Corners.{reduced}
 use Rattle.definitions.specs.Outlook.{lines}
-use Rattle.lines.specs.OutlookTimes.{reachTime}
-use Rattle.values.specs.Reach.{BelowAt, lookAhead}
+use Rattle.lines.specs.OutlookTimes.{reachTime, rises, reachTime-least}
+use Rattle.lines.specs.RunOutlook.{leading, trailing}
+use Rattle.values.specs.declared.Line.{Line as LineValue}
+use Rattle.values.specs.Signed.{as-i64, read-back}
+use Rattle.values.specs.Small.{Small}
+use Rattle.values.specs.Reach.{BelowAt, Mirrored, lookAhead}
 
 abbrev pub crossingOf : Line → ℤ → ℤ
 crossingOf l level = ceilDiv (l .d *ℤ level -ℤ l .q) (l .p)
 
-module _ (l : Line) (v : Service) (from : ℕ) (in-time : from ≤ mostTime) where
-  reach-is : {r : Time} → IsLeast (Reaches (l .p) (l .q) (l .d *ℤ v .level)) from mostTime r → reachTime v from l ≡ r
-  reach-is h = least-unique (firstReach-is (l .p) (l .q) (l .d *ℤ v .level) from mostTime in-time) h
+module _ (l : Line) (level : ℤ) (from : ℕ) (in-time : from ≤ mostTime) where
+  reach-is : {r : Time} → IsLeast (Reaches (l .p) (l .q) (l .d *ℤ level)) from mostTime r → reachTime (rises level) from l ≡ r
+  unfolding reading
+  reach-is h = least-unique (reachTime-least level from l) h
 
-  pub reach-now : (l .d *ℤ v .level) ≤ℤ reading l from → reachTime v from l ≡ at from
+  pub reach-now : (l .d *ℤ level) ≤ℤ reading l from → reachTime (rises level) from l ≡ at from
   unfolding reading
   reach-now reached = reach-is (least-at from (NatL.le-refl from) in-time reached (λ s a b. absurd (omega arith)))
 
-  module _ (under : BelowAt l (v .level) from) where
-    pub reach-falling : (l .p) ≤ℤ pos 0 → reachTime v from l ≡ none
+  module _ (under : BelowAt l level from) where
+    pub reach-falling : (l .p) ≤ℤ pos 0 → reachTime (rises level) from l ≡ none
     unfolding reading
-    reach-falling falls = reach-is (reach-never (l .p) (l .q) (l .d *ℤ v .level) from mostTime falls under)
+    reach-falling falls = reach-is (reach-never (l .p) (l .q) (l .d *ℤ level) from mostTime falls under)
 
-    module _ (rises : pos 0 <ℤ (l .p)) where
-      is-crossing : crossingOf l (v .level) ≡ pos (crossing (l .p) (l .q) (l .d *ℤ v .level))
+    module _ (ascends : pos 0 <ℤ (l .p)) where
+      is-crossing : crossingOf l level ≡ pos (crossing (l .p) (l .q) (l .d *ℤ level))
       unfolding reading
-      is-crossing = crossing-after (l .p) (l .q) (l .d *ℤ v .level) from mostTime rises under .0
+      is-crossing = crossing-after (l .p) (l .q) (l .d *ℤ level) from mostTime ascends under .0
 
-      pub crossing-nonneg : pos 0 ≤ℤ crossingOf l (v .level)
+      pub crossing-nonneg : pos 0 ≤ℤ crossingOf l level
       crossing-nonneg = rw is-crossing (omega ints)
 
-      pub reach-rising : crossingOf l (v .level) ≤ℤ pos mostTime → reachTime v from l ≡ at (natAbs (crossingOf l (v .level)))
+      pub reach-rising : crossingOf l level ≤ℤ pos mostTime → reachTime (rises level) from l ≡ at (natAbs (crossingOf l level))
       unfolding reading
       reach-rising early =
-          let early-c : crossing (l .p) (l .q) (l .d *ℤ v .level) ≤ mostTime = omega (ints, is-crossing) in
-          reach-is (reach-after (l .p) (l .q) (l .d *ℤ v .level) from mostTime rises under early-c)
+          let early-c : crossing (l .p) (l .q) (l .d *ℤ level) ≤ mostTime = omega (ints, is-crossing) in
+          reach-is (reach-after (l .p) (l .q) (l .d *ℤ level) from mostTime ascends under early-c)
           ∙ ap (λ z. at (natAbs z)) (sym is-crossing)
 
-      pub reach-late : pos mostTime <ℤ crossingOf l (v .level) → reachTime v from l ≡ none
+      pub reach-late : pos mostTime <ℤ crossingOf l level → reachTime (rises level) from l ≡ none
       unfolding reading
       reach-late late =
-          let late-c : mostTime < crossing (l .p) (l .q) (l .d *ℤ v .level) = omega (ints, is-crossing) in
-          reach-is (reach-too-late (l .p) (l .q) (l .d *ℤ v .level) from mostTime rises late-c)
+          let late-c : mostTime < crossing (l .p) (l .q) (l .d *ℤ level) = omega (ints, is-crossing) in
+          reach-is (reach-too-late (l .p) (l .q) (l .d *ℤ level) from mostTime ascends late-c)
 
-pub look-by : (slow fast : Line) (v : Service) (last : ℕ) {k l : Line} {some all : Time} → k ≡ reduced slow → l ≡ reduced fast → some ≡ reachTime v last fast → all ≡ reachTime v last slow
-    → lines k l some all ≡ lookAhead slow fast v last
-look-by slow fast v last a b c d = λ i. lines (a i) (b i) (c i) (d i)
+-- ---- two lines
+
+module _ (slow fast : Line) (v : Service) (last : ℕ) {k l : Line} {by-slow by-fast : Time} (slow-is : k ≡ reduced slow) (fast-is : l ≡ reduced fast)
+    (by-slow-is : by-slow ≡ reachTime v last slow) (by-fast-is : by-fast ≡ reachTime v last fast) where
+  pub look-rising : directionOf (v .direction) ≡ rising → lines k l by-fast by-slow ≡ lookAhead slow fast v last
+  look-rising e =
+      (λ i. lines (slow-is i) (fast-is i) (by-fast-is i) (by-slow-is i))
+      ∙ sym (ap (λ d. lines (reduced slow) (reduced fast) (reachTime v last (leading d slow fast)) (reachTime v last (trailing d slow fast))) e)
+
+  pub look-falling : directionOf (v .direction) ≡ falling → lines k l by-slow by-fast ≡ lookAhead slow fast v last
+  look-falling e =
+      (λ i. lines (slow-is i) (fast-is i) (by-slow-is i) (by-fast-is i))
+      ∙ sym (ap (λ d. lines (reduced slow) (reduced fast) (reachTime v last (leading d slow fast)) (reachTime v last (trailing d slow fast))) e)
+
+-- ---- the mirror image as code makes it
+
+pub mirrored-by : {l : LineValue} → Small l → Mirrored l (record { p = as-i64 (pos 0 -ℤ as-i64 (l .p)); q = as-i64 (pos 0 -ℤ as-i64 (l .q)); d = as-i64 (l .d) })
+mirrored-by {l} s =
+    let b = s .bounds in
+    let ep = negated-is w64 (b .p-in) tt in
+    let eq = negated-is w64 (b .q-in) tt in
+    let ed = read-back w64 (b .d-in) tt in
+    record {
+      is = λ i. record { p = ep i; q = eq i; d = ed i };
+      small = record { bounds = record { p-in = rw ep (in-neg (b .p-in)); q-in = rw eq (in-neg (b .q-in)); d-in = rw ed (b .d-in) }; d-above-0 = rw ed (s .d-above-0) };
+    }

@@ -12,9 +12,10 @@ pub struct Line {
     pub d: i64,
 }
 
-// What an outlook looks for.
+// What an outlook looks for: the level, and the direction from which it is reached, 0 for rising and 1 for falling.
 pub struct Service {
     pub level: i32,
+    pub direction: u32,
 }
 
 // Where a line is against a level at a time.

@@ -7,8 +7,10 @@ use definitions::limits::WRITE_ROOM;
 use fields::parts::part;
 use testing::lists::first_times;
 use testing::lists::first_values;
+use testing::telling::say;
 use trace_testing::making::put_many;
 use trace_testing::making::put_sample;
+use trace_testing::telling::number;
 use trace_testing::telling::title_of_three;
 
 // ---- the most ranges
@@ -24,21 +26,24 @@ fn write_most(made: &[u8], file: &mut [u8]) {
 
 pub fn most(file: &mut [u8]) {
     let mut made = [0u8; WRITE_ROOM];
-    put_many(&mut made, 65535, 4096);
+    put_many(&mut made, 65535, true, 4096);
     write_most(&made, file);
     read_back(file, &made);
 }
 
-// ---- the sample's lists, cut at different lengths
+// ---- the sample's lists, cut at different lengths, and falling
 
-fn write_first(a: usize, b: usize, c: usize, file: &mut [u8]) {
+fn write_first(direction: u32, a: usize, b: usize, c: usize, file: &mut [u8]) {
     let times = [10u32, 20, 30, 40, 50];
     let lows = [0i32, 4, 10, 9, 9];
     let highs = [4i32, 8, 14, 11, 12];
-    title_of_three(b"write lists", a, b, c);
+    say(b"write direction");
+    number(direction as u64);
+    title_of_three(b" lists", a, b, c);
     tell_write(
         7,
         20,
+        direction,
         first_times(&times, a),
         first_values(&lows, b),
         first_values(&highs, c),
@@ -47,14 +52,22 @@ fn write_first(a: usize, b: usize, c: usize, file: &mut [u8]) {
 }
 
 pub fn cut(file: &mut [u8]) {
-    write_first(0, 0, 0, file);
-    write_first(4, 5, 5, file);
-    write_first(5, 4, 5, file);
-    write_first(5, 5, 4, file);
-    write_first(5, 5, 5, file);
+    write_first(0, 0, 0, 0, file);
+    write_first(0, 4, 5, 5, file);
+    write_first(0, 5, 4, 5, file);
+    write_first(0, 5, 5, 4, file);
+    write_first(0, 5, 5, 5, file);
     let mut sample = [0u8; 86];
-    put_sample(&mut sample);
+    put_sample(&mut sample, false);
     read_back(part(file, 0, 86), &sample);
+}
+
+pub fn falling(file: &mut [u8]) {
+    write_first(1, 0, 0, 0, file);
+    write_first(1, 5, 5, 5, file);
+    let mut sample = [0u8; 90];
+    put_sample(&mut sample, true);
+    read_back(part(file, 0, 90), &sample);
 }
 
 // ---- slices of other lengths
@@ -66,6 +79,7 @@ fn write_zeros(a: usize, b: usize, file: &mut [u8]) {
     title_of_three(b"write zeros", a, b, file.len());
     tell_write(
         1,
+        0,
         0,
         first_times(&times, a),
         first_values(&values, a),

@@ -12,5 +12,6 @@ fn main() {
     lists::most(&mut file);
     values::all(&mut file);
     lists::cut(&mut file);
+    lists::falling(&mut file);
     lists::lengths();
 }

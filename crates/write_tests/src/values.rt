@@ -4,11 +4,17 @@ use testing::telling::say;
 use trace_testing::telling::number;
 use trace_testing::telling::signed_number;
 
-fn title_of_values(address: u32, level: i32, time: u32, low: i32, high: i32) {
+// What stands before the ranges.
+fn title_of_header(address: u32, level: i32, direction: u32) {
     say(b"write address");
     number(address as u64);
     say(b" level");
     signed_number(level);
+    say(b" direction");
+    number(direction as u64);
+}
+
+fn title_of_range(time: u32, low: i32, high: i32) {
     say(b" and");
     number(time as u64);
     signed_number(low);
@@ -17,12 +23,25 @@ fn title_of_values(address: u32, level: i32, time: u32, low: i32, high: i32) {
 }
 
 // Two ranges, the first at the time 5.
-fn write_two(address: u32, level: i32, time: u32, low: i32, high: i32, file: &mut [u8]) {
+fn write_directed(
+    address: u32,
+    level: i32,
+    direction: u32,
+    time: u32,
+    low: i32,
+    high: i32,
+    file: &mut [u8],
+) {
     let times = [5u32, time];
     let lows = [low; 2];
     let highs = [high; 2];
-    title_of_values(address, level, time, low, high);
-    tell_write(address, level, &times, &lows, &highs, file);
+    title_of_header(address, level, direction);
+    title_of_range(time, low, high);
+    tell_write(address, level, direction, &times, &lows, &highs, file);
+}
+
+fn write_two(address: u32, level: i32, time: u32, low: i32, high: i32, file: &mut [u8]) {
+    write_directed(address, level, 0, time, low, high, file);
 }
 
 // The ends of the addresses in one byte and of those in two.
@@ -48,6 +67,21 @@ fn levels(file: &mut [u8]) {
     write_two(1, 268435457, 6, 0, 0, file);
 }
 
+fn directions(file: &mut [u8]) {
+    write_directed(1, 0, 1, 6, 0, 0, file);
+    write_directed(65535, -268435456, 1, 6, 0, 0, file);
+    write_directed(1, 0, 2, 6, 0, 0, file);
+    write_directed(1, 0, 4294967295, 6, 0, 0, file);
+}
+
+// Cut to 8 bits, the first two would be directions; the others have a fault more, before the direction and after it.
+fn other_directions(file: &mut [u8]) {
+    write_directed(1, 0, 256, 6, 0, 0, file);
+    write_directed(1, 0, 257, 6, 0, 0, file);
+    write_directed(1, 268435457, 2, 6, 0, 0, file);
+    write_directed(1, 0, 2, 5, 1, 0, file);
+}
+
 fn times_and_values(file: &mut [u8]) {
     write_two(1, 0, 4294967295, -268435456, 268435456, file);
     write_two(1, 0, 5, -268435457, 0, file);
@@ -61,5 +95,7 @@ pub fn all(file: &mut [u8]) {
     addresses(file);
     above_addresses(file);
     levels(file);
+    directions(file);
+    other_directions(file);
     times_and_values(file);
 }

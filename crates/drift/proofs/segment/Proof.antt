@@ -15,13 +15,13 @@ use Rattle.definitions.specs.Spans.{mostRanges, segmentRoom}
 use Rattle.definitions.specs.Ranges.{Lists, rangesOf}
 use Rattle.definitions.specs.Results.{segmentOf, segmentsOf}
 use Rattle.definitions.specs.Answers.{Row, refused, accepted, firstRow, refusal}
-use Rattle.definitions.specs.Trial.{tooShort, outside, segmentRows}
+use Rattle.definitions.specs.Trial.{tooShort, segmentRows}
 use Rattle.trial_laws.specs.Rows.{refusal-zero, refusal-above}
-use Rattle.trial_laws.specs.ListTrial.{trialRows, segment-trial, trial-numbered}
+use Rattle.trial_laws.specs.ListTrial.{trialRows, badService, segment-trial, trial-numbered}
 use Rattle.trial_laws.specs.RangeLists.{ranges-length}
 use Rattle.lines.specs.Theorems.{segments-room}
 use Rattle.definitions.specs.Segments.{segments}
-use Rattle.trial_laws.specs.Accepted.{AcceptedLists, trial-zero}
+use Rattle.trial_laws.specs.Accepted.{AcceptedLists, service-good, trial-zero}
 use Rattle.drift.specs.Columns.{Columns, columns, lengths, AllStored, room-tested, short-tested}
 use Rattle.drift.specs.ColumnLaws.{room-less}
 use Rattle.drift.specs.SegmentPromiseLaws.{promise-refused, promise-accepted}
@@ -32,7 +32,7 @@ use Rattle.drift.proofs.segment.Tie as tie
 -- ---- at entry
 
 abbrev service : tie.Start → Service
-service c = record { level = c .args .level }
+service c = record { level = c .args .level; direction = c .args .direction }
 
 abbrev level : tie.Start → ℤ
 level c = c .args .level
@@ -56,8 +56,8 @@ three-short-requires-2 c κs = tt
 three-short-requires-3 : tie.Need-three-short-requires-3
 three-short-requires-3 c κs = tt
 
-value-outside-requires : tie.Need-value-outside-requires
-value-outside-requires c κs = tt
+service-outside-requires : tie.Need-service-outside-requires
+service-outside-requires c κs = tt
 
 try-lists-requires : tie.Need-try-lists-requires
 try-lists-requires c κs = tt
@@ -72,8 +72,8 @@ few v ls a most =
     omega (arith, length-map (segments (rangesOf ls)) (segmentOf v), segments-room (rangesOf ls) (a .ranges .ordered) (omega arith))
 
 -- the trial's rows are the call's
-tried : (ns : List ℕ) (v : Service) (level′ : ℤ) (ls : Lists) {short out : Bool} → short ≡ tooShort segmentRoom ns → out ≡ outside level′ → level′ ≡ v .level → firstRow (segmentRows ns v ls) ≡ firstRow (trialRows short out ls)
-tried ns v level′ ls e f g = segment-trial ns v ls ∙ ap₂ (λ short out. firstRow (trialRows short out ls)) (sym e) (sym (f ∙ ap outside g))
+tried : (ns : List ℕ) (v : Service) (ls : Lists) {short out : Bool} → short ≡ tooShort segmentRoom ns → out ≡ badService v → firstRow (segmentRows ns v ls) ≡ firstRow (trialRows short out ls)
+tried ns v ls e f = segment-trial ns v ls ∙ ap₂ (λ short out. firstRow (trialRows short out ls)) (sym e) (sym f)
 
 module _ (c : tie.After-try-lists) where
   abbrev entry : tie.Start
@@ -86,17 +86,20 @@ module _ (c : tie.After-try-lists) where
   short-is : short ≡ tooShort segmentRoom (lengths (old entry))
   short-is = short-tested segmentRoom (old entry) (c .before .before .before .before .three-short .ensures) (c .before .before .before .three-short2 .ensures) (c .before .before .three-short3 .ensures)
 
+  outside-is : c .before .service-outside .result ≡ badService (service entry)
+  outside-is = c .before .service-outside .ensures ∙ ap (λ z. badService (record { level = z; direction = service entry .direction })) (level-read entry)
+
   abbrev number : ℕ
   number = c .try-lists .result
 
   abbrev rows : List Row
-  rows = trialRows short (c .before .value-outside .result) (lists entry)
+  rows = trialRows short (c .before .service-outside .result) (lists entry)
 
   number-is : refusal (firstRow rows) ≡ number
   number-is = sym (c .try-lists .ensures)
 
   rows-are : firstRow (segmentRows (lengths (old entry)) (service entry) (lists entry)) ≡ firstRow rows
-  rows-are = tried (lengths (old entry)) (service entry) (toZ w32 (ofZ w32 (level entry))) (lists entry) short-is (c .before .value-outside .ensures) (level-read entry)
+  rows-are = tried (lengths (old entry)) (service entry) (lists entry) short-is outside-is
 
   one-holds : 0 < number → firstRow (segmentRows (lengths (old entry)) (service entry) (lists entry)) ≡ refused number
   one-holds h = rows-are ∙ refusal-above (firstRow rows) number number-is h
@@ -108,7 +111,7 @@ module _ (c : tie.After-try-lists) where
   ready e =
       let (roomy, inside, lists-accepted, most) = trial-zero _ _ (lists entry) .0 (number-is ∙ e) in
       record {
-        tried = record { level-inside = ap outside (sym (level-read entry)) ∙ sym (c .before .value-outside .ensures) ∙ inside; lists-accepted = lists-accepted; few = most };
+        tried = record { good = service-good (service entry) .0 (sym outside-is ∙ inside); lists-accepted = lists-accepted; few = most };
         room = room-less (few (service entry) (lists entry) lists-accepted most) (room-tested (old entry) (sym short-is ∙ roomy));
       }
 
@@ -119,7 +122,7 @@ fill-requires : tie.Need-fill-requires
 fill-requires c κs =
     let t = c .before .before .before .before .before .before .before .before .before .before .before .before in
     let s = entry t in
-    subst (λ l. FillReady (record { level = l }) (lists s) (old s)) (sym (level-read s)) (ready t (c .before .before .before .before .before .before .before .before .before .before .before .if1 .left))
+    subst (λ l. FillReady (record { level = l; direction = service s .direction }) (lists s) (old s)) (sym (level-read s)) (ready t (c .before .before .before .before .before .before .before .before .before .before .before .if1 .left))
 
 -- ---- where the slices are filled
 
@@ -168,7 +171,7 @@ returns-2 c =
     let filling = f .fill in
     let new = columns (filling .last .1 .1 .1 .1 .0) (filling .last .1 .1 .1 .1 .1 .0) (filling .last .1 .1 .1 .1 .1 .1 .0) (filling .last .1 .1 .1 .1 .1 .1 .1 .0) (filling .last .1 .1 .1 .1 .1 .1 .1 .1 .0) (filling .last .1 .1 .1 .1 .1 .1 .1 .1 .1 .0) (filling .last .1 .1 .1 .1 .1 .1 .1 .1 .1 .1 .0) (filling .last .1 .1 .1 .1 .1 .1 .1 .1 .1 .1 .1 .0) (filling .last .1 .1 .1 .1 .1 .1 .1 .1 .1 .1 .1 .1 .0) (filling .last .1 .1 .1 .1 .1 .1 .1 .1 .1 .1 .1 .1 .1 .0) (filling .last .1 .1 .1 .1 .1 .1 .1 .1 .1 .1 .1 .1 .1 .1 .0) in
     promise-accepted (service s) (lists s) (filling .result) (none-holds t (f .before .before .before .before .before .before .before .before .before .before .before .before .if1 .left))
-    (subst (λ l. AllStored (filling .result) (segmentsOf (record { level = l }) (rangesOf (lists s))) (old s) new) (level-read s) (filling .ensures))
+    (subst (λ l. AllStored (filling .result) (segmentsOf (record { level = l; direction = service s .direction }) (rangesOf (lists s))) (old s) new) (level-read s) (filling .ensures))
 
 pub segment-spec : {M : Type 1} → statement M
 segment-spec =
@@ -177,7 +180,7 @@ segment-spec =
     three-short-requires
     three-short-requires-2
     three-short-requires-3
-    value-outside-requires
+    service-outside-requires
     try-lists-requires
     returns
     fill-requires

@@ -4,6 +4,7 @@ use mathlib.Core.Path.{_≡_, sym, ap, _∙_}
 use mir.Facts.{toZ-ofZ}
 use borrow.Author.Needs.{needs}
 use lib.IntN.{ℤ}
+use Rattle.definitions.specs.Services.{Service}
 use Rattle.definitions.specs.Ranges.{Range, Lists}
 use Rattle.definitions.specs.Answers.{accepted}
 use Rattle.definitions.specs.Previews.{Effect, kindNumber, effectOutlook}
@@ -36,6 +37,9 @@ enum-known-answer-3 c = search needs
 abbrev entry : tie.After-preview → tie.Start
 entry c = c .before .before
 
+abbrev service : tie.Start → Service
+service c = record { level = c .args .level; direction = c .args .direction }
+
 abbrev lists : tie.Start → Lists
 lists c = record { times = c .args .times .now; lows = c .args .lows .now; highs = c .args .highs .now }
 
@@ -50,20 +54,20 @@ lent c =
     }
 
 -- the level, the low and the high are passed on as bits
-by-bits : {level low high level′ low′ high′ : ℤ} (ls : Lists) (time : ℕ) {answer : PreviewAnswer} → level′ ≡ level → low′ ≡ low → high′ ≡ high
-    → PreviewPromise (record { level = level′ }) ls (record { time = time; low = low′; high = high′ }) answer
-    → PreviewPromise (record { level = level }) ls (record { time = time; low = low; high = high }) answer
+by-bits : {level low high level′ low′ high′ : ℤ} {direction : ℕ} (ls : Lists) (time : ℕ) {answer : PreviewAnswer} → level′ ≡ level → low′ ≡ low → high′ ≡ high
+    → PreviewPromise (record { level = level′; direction = direction }) ls (record { time = time; low = low′; high = high′ }) answer
+    → PreviewPromise (record { level = level; direction = direction }) ls (record { time = time; low = low; high = high }) answer
 by-bits ls time e f g h = rw (sym e, sym f, sym g) h
 
-promise : (c : tie.After-preview) → PreviewPromise (record { level = entry c .args .level }) (lists (entry c)) (range (entry c)) (c .preview .result)
+promise : (c : tie.After-preview) → PreviewPromise (service (entry c)) (lists (entry c)) (range (entry c)) (c .preview .result)
 promise c = let s = entry c in by-bits (lists s) (s .args .time) (toZ-ofZ (s .fits .level)) (toZ-ofZ (s .fits .low)) (toZ-ofZ (s .fits .high)) (c .preview .ensures)
 
 -- the promise where the range has an effect, from the effect's numbers
 told : (c : tie.After-preview) (e : Effect) → previewMeaning (c .preview .result) ≡ accepted e → {numbers : OutlookNumbers} → numbers ≡ outlookNumbers (effectOutlook e)
-    → AfterPreview (entry c .args .level) (lists (entry c)) (range (entry c)) (lent (entry c)) (record { kind = kindNumber e; numbers = numbers }) 0
+    → AfterPreview (service (entry c)) (lists (entry c)) (range (entry c)) (lent (entry c)) (record { kind = kindNumber e; numbers = numbers }) 0
 told c e is numbers-are =
     let old = lent (entry c) in
-    after-preview (entry c .args .level) (lists (entry c)) (range (entry c)) old (record { kind = kindNumber e; numbers = _ }) (promise c) (number-accepted is) (given-accepted is kindNumber (old .kind)) (numbers-are ∙ given-accepted is (λ e. outlookNumbers (effectOutlook e)) (old .numbers))
+    after-preview (service (entry c)) (lists (entry c)) (range (entry c)) old (record { kind = kindNumber e; numbers = _ }) (promise c) (number-accepted is) (given-accepted is kindNumber (old .kind)) (numbers-are ∙ given-accepted is (λ e. outlookNumbers (effectOutlook e)) (old .numbers))
 
 abbrev joins-at : tie.After-known-told → tie.After-preview
 joins-at c = c .before .before .before
@@ -91,7 +95,7 @@ unfolding previewMeaning
 returns-3 c =
     let is = ap previewMeaning (c .before .answer3 .given .1) in
     let s = entry (refused-at c) in
-    after-preview (s .args .level) (lists s) (range s) (lent s) (lent s) (promise (refused-at c)) (number-refused is) (given-refused is kindNumber (lent s .kind)) (given-refused is (λ e. outlookNumbers (effectOutlook e)) (lent s .numbers))
+    after-preview (service s) (lists s) (range s) (lent s) (lent s) (promise (refused-at c)) (number-refused is) (given-refused is kindNumber (lent s .kind)) (given-refused is (λ e. outlookNumbers (effectOutlook e)) (lent s .numbers))
 
 pub humoraki-preview-spec : {M : Type 1} → statement M
 humoraki-preview-spec =

@@ -22,7 +22,7 @@ abbrev entry : tie.After-read → tie.Start
 entry c = c .before .before .before .before .before .before
 
 abbrev lent : tie.Start → ReadLent
-lent c = record { times = c .args .times .now; lows = c .args .lows .now; highs = c .args .highs .now; address = c .args .address .now; level = c .args .level .now; ranges = c .args .ranges .now }
+lent c = record { times = c .args .times .now; lows = c .args .lows .now; highs = c .args .highs .now; address = c .args .address .now; level = c .args .level .now; direction = c .args .direction .now; ranges = c .args .ranges .now }
 
 abbrev called : tie.After-highs → tie.After-read
 called c = c .before .before .before .before
@@ -50,9 +50,10 @@ returns c =
     let is = ap readMeaning (c .before .before .answer .given .1) in
     let args = entry (accepted-at c) .args in
     after-read (args .file .now) (lent (entry (accepted-at c)))
-    (record { times = call .last .1 .0; lows = call .last .1 .1 .0; highs = call .last .1 .1 .1 .0; address = known .address; level = toZ w32 (ofZ w32 (known .level)); ranges = known .ranges })
+    (record { times = call .last .1 .0; lows = call .last .1 .1 .0; highs = call .last .1 .1 .1 .0; address = known .address; level = toZ w32 (ofZ w32 (known .level)); direction = known .direction; ranges = known .ranges })
     (call .ensures) (given-accepted is (λ known. known .address) (args .address .now))
     ((search needs) ∙ given-accepted is (λ known. known .level) (args .level .now))
+    (given-accepted is (λ known. known .direction) (args .direction .now))
     (given-accepted is (λ known. known .ranges) (args .ranges .now))
     (number-accepted is)
 
@@ -72,9 +73,10 @@ returns-2 c =
     let is = ap readMeaning (c .before .answer2 .given .1) in
     let args = entry (refused-at c) .args in
     after-read (args .file .now) (lent (entry (refused-at c)))
-    (record { times = call .last .1 .0; lows = call .last .1 .1 .0; highs = call .last .1 .1 .1 .0; address = args .address .now; level = args .level .now; ranges = args .ranges .now })
+    (record { times = call .last .1 .0; lows = call .last .1 .1 .0; highs = call .last .1 .1 .1 .0; address = args .address .now; level = args .level .now; direction = args .direction .now; ranges = args .ranges .now })
     (call .ensures) (given-refused is (λ known. known .address) (args .address .now))
     (given-refused is (λ known. known .level) (args .level .now))
+    (given-refused is (λ known. known .direction) (args .direction .now))
     (given-refused is (λ known. known .ranges) (args .ranges .now))
     (number-refused is)
 

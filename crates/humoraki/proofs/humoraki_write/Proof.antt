@@ -24,7 +24,7 @@ abbrev entry : tie.After-write → tie.Start
 entry c = c .before .before .before .before
 
 abbrev header : tie.Start → Header
-header c = record { address = c .args .address; service = record { level = c .args .level } }
+header c = record { address = c .args .address; service = record { level = c .args .level; direction = c .args .direction } }
 
 abbrev lists : tie.Start → Lists
 lists c = record { times = c .args .times .now; lows = c .args .lows .now; highs = c .args .highs .now }
@@ -40,22 +40,22 @@ refused-at c = c .before .before .before .before .before
 
 -- the promise, from the count and the number that the answer is given as; the level is passed on as bits
 after : (c : tie.After-write) {count number : ℕ} → Counts (writeMeaning (c .write .result)) (λ n. n) (lent (entry c) .count) count number
-    → AfterWrite (header (entry c)) (lists (entry c)) (lent (entry c)) (record { file = c .write .last .1 .1 .1 .1 .1 .0; count = count }) number
+    → AfterWrite (header (entry c)) (lists (entry c)) (lent (entry c)) (record { file = c .write .last .1 .1 .1 .1 .1 .1 .0; count = count }) number
 after c counts =
     let s = entry c in
-    after-write (header s) (lists s) (lent s) (record { file = c .write .last .1 .1 .1 .1 .1 .0; count = _ })
-    (subst (λ level. WritePromise (record { address = s .args .address; service = record { level = level } }) (lists s) (lent s .file) (c .write .last .1 .1 .1 .1 .1 .0) (c .write .result)) (toZ-ofZ (s .fits .level)) (c .write .ensures))
+    after-write (header s) (lists s) (lent s) (record { file = c .write .last .1 .1 .1 .1 .1 .1 .0; count = _ })
+    (subst (λ level. WritePromise (record { address = s .args .address; service = record { level = level; direction = s .args .direction } }) (lists s) (lent s .file) (c .write .last .1 .1 .1 .1 .1 .1 .0) (c .write .result)) (toZ-ofZ (s .fits .level)) (c .write .ensures))
     counts
 
 same-length : tie.Need-same-length
-same-length c = accepted-at c .write .kept .1 .1 .1 .1 .1 .0
+same-length c = accepted-at c .write .kept .1 .1 .1 .1 .1 .1 .0
 
 returns : tie.Need-returns
 unfolding writeMeaning
 returns c = after (accepted-at c) (counts-accepted (ap writeMeaning (c .before .answer .given .1)) (λ n. n) (lent (entry (accepted-at c)) .count))
 
 same-length-2 : tie.Need-same-length-2
-same-length-2 c = refused-at c .write .kept .1 .1 .1 .1 .1 .0
+same-length-2 c = refused-at c .write .kept .1 .1 .1 .1 .1 .1 .0
 
 returns-2 : tie.Need-returns-2
 unfolding writeMeaning

@@ -2,7 +2,6 @@
 use native.Mathlib.Nat.{le-refl}
 use native.Mathlib.Omega.{arith}
 use Rattle.definitions.specs.Ranges.{Lists}
-use Rattle.trial_laws.specs.Inside.{value-inside}
 use Rattle.trial_laws.specs.LongerLists.{shorter-accepted}
 use Rattle.fit.specs.RangesByValue.{rangeOf}
 use Rattle.preview.specs.FoundEffects.{given-closed, given-joined}
@@ -55,7 +54,7 @@ returns c = given-closed (c .before .before .before .before .before .before .bef
 outlook-of-requires : tie.Need-outlook-of-requires
 outlook-of-requires c κs =
     let z = c .before .before .before .before .before .before .before .before .before .run-with .ensures .found .polygon-is (omega (arith, c .before .before .before .before .before .before .before .before .before .before .before .before .before .before .before .before .before .before .last-run .ensures .begins, c .before .before .before .if1 .left)) in
-    (z .slow-small, z .fast-small, value-inside (c .before .before .before .before .before .before .before .before .before .before .before .before .before .before .before .before .before .before .before .before .before .before .before .before .args .v .level) .0 (c .before .before .before .before .before .before .before .before .before .before .before .before .before .before .before .before .before .before .before .before .before .before .before .before .pre .level-inside))
+    (z .slow-small, z .fast-small, c .before .before .before .before .before .before .before .before .before .before .before .before .before .before .before .before .before .before .before .before .before .before .before .before .pre .good)
 
 returns-2 : tie.Need-returns-2
 returns-2 c = given-joined (c .before .before .before .before .before .before .before .before .before .before .before .before .before .before .before .before .before .before .before .before .before .before .before .before .before .pre) (c .before .before .before .before .before .before .before .before .before .before .before .before .before .before .before .before .before .before .before .last-run .ensures) (c .before .before .before .before .before .before .before .before .before .before .run-with .ensures) (c .before .before .before .before .if1 .left) (c .outlook-of .ensures)

@@ -29,17 +29,17 @@ abbrev lists : tie.Start → Lists
 lists s = record { times = s .args .times .now; lows = s .args .lows .now; highs = s .args .highs .now }
 
 abbrev service : tie.Start → Service
-service s = record { level = toZ w32 (ofZ w32 (s .args .level)) }
+service s = record { level = toZ w32 (ofZ w32 (s .args .level)); direction = s .args .direction }
 
 abbrev range : tie.Start → Range
 range s = record { time = s .args .time; low = toZ w32 (ofZ w32 (s .args .low)); high = toZ w32 (ofZ w32 (s .args .high)) }
 
 -- what is promised of the numbers as they are passed on is promised of them as they were given
 as-given : (s : tie.Start) {answer : PreviewAnswer} → PreviewPromise (service s) (lists s) (range s) answer
-    → PreviewPromise (record { level = s .args .level }) (lists s) (record { time = s .args .time; low = s .args .low; high = s .args .high }) answer
+    → PreviewPromise (record { level = s .args .level; direction = s .args .direction }) (lists s) (record { time = s .args .time; low = s .args .low; high = s .args .high }) answer
 as-given s {answer} =
     subst (λ (n : Service × Range). PreviewPromise (n .0) (lists s) (n .1) answer)
-    (λ j. (record { level = toZ-ofZ (s .fits .level) j }, record { time = s .args .time; low = toZ-ofZ (s .fits .low) j; high = toZ-ofZ (s .fits .high) j }))
+    (λ j. (record { level = toZ-ofZ (s .fits .level) j; direction = s .args .direction }, record { time = s .args .time; low = toZ-ofZ (s .fits .low) j; high = toZ-ofZ (s .fits .high) j }))
 
 -- ---- where the trial has answered
 
@@ -51,13 +51,13 @@ module _ (c : tie.After-try-longer) where
   number = c .try-longer .result
 
   abbrev rows : List Row
-  rows = trialRows false (c .before .value-outside .result) (longer (lists entry) (range entry))
+  rows = trialRows false (c .before .service-outside .result) (longer (lists entry) (range entry))
 
   number-is : refusal (firstRow rows) ≡ number
   number-is = sym (c .try-longer .ensures)
 
   rows-are : firstRow (previewRows (service entry) (lists entry) (range entry)) ≡ firstRow rows
-  rows-are = preview-trial (service entry) (lists entry) (range entry) ∙ ap (λ o. firstRow (trialRows false o (longer (lists entry) (range entry)))) (sym (c .before .value-outside .ensures))
+  rows-are = preview-trial (service entry) (lists entry) (range entry) ∙ ap (λ o. firstRow (trialRows false o (longer (lists entry) (range entry)))) (sym (c .before .service-outside .ensures))
 
   one-holds : 0 < number → firstRow (previewRows (service entry) (lists entry) (range entry)) ≡ refused number
   one-holds h = rows-are ∙ refusal-above (firstRow rows) number number-is h
@@ -68,10 +68,10 @@ module _ (c : tie.After-try-longer) where
   unrefused : number ≡ 0 → 0 < length (lists entry .times) → Unrefused (service entry) (lists entry) (range entry)
   unrefused e h =
       let p = preview-accepted (service entry) (lists entry) (range entry) .0 (none-holds e) in
-      record { level-inside = p .0; lists-accepted = p .1; room = p .2; some = h; time-in = omega (arith, entry .fits .time) }
+      record { good = p .0; lists-accepted = p .1; room = p .2; some = h }
 
-value-outside-requires : tie.Need-value-outside-requires
-value-outside-requires c κs = search needs
+service-outside-requires : tie.Need-service-outside-requires
+service-outside-requires c κs = search needs
 
 try-longer-requires : tie.Need-try-longer-requires
 try-longer-requires c κs = search needs
@@ -100,7 +100,7 @@ pub preview-spec : {M : Type 1} → statement M
 preview-spec =
     tie.close
     (tie.spec
-    value-outside-requires
+    service-outside-requires
     try-longer-requires
     returns
     returns-2

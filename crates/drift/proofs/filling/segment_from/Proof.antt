@@ -4,10 +4,7 @@ use mathlib.Core.Path.{sym, subst}
 use Prim.Native.Nat.{_-_}
 use native.Mathlib.Nat.{le-refl}
 use native.Mathlib.Omega.{arith}
-use Rattle.integers.specs.Bounds.{Within}
-use Rattle.definitions.specs.Spans.{mostValue}
 use Rattle.definitions.specs.Ranges.{Lists}
-use Rattle.trial_laws.specs.Inside.{value-inside}
 use Rattle.trial_laws.specs.Accepted.{AcceptedLists}
 use Rattle.values.specs.Meanings.{serviceOf, outlookOf, segmentOf}
 use Rattle.drift.specs.Filling.{NextSegment}
@@ -71,9 +68,6 @@ lists s = record { times = s .args .times .now; lows = s .args .lows .now; highs
 lists-good : (s : tie.Start) → AcceptedLists (lists s)
 lists-good s = s .pre .tried .lists-accepted
 
-level-in : (s : tie.Start) → Within mostValue (s .args .v .level)
-level-in s = value-inside (s .args .v .level) .0 (s .pre .tried .level-inside)
-
 returns : tie.Need-returns
 unfolding segmentOf outlookOf
 returns c =
@@ -86,7 +80,7 @@ outlook-of-requires c κs =
     let r = c .before .before .before .before .before .before .before .before .before .before .before .before in
     let two = c .before .before .before .if1 .left in
     let z = r .run-from .ensures .polygon-is (omega arith) in
-    (z .slow-small, z .fast-small, level-in (entry r))
+    (z .slow-small, z .fast-small, entry r .pre .tried .good)
 
 same-length-5 : tie.Need-same-length-5
 same-length-5 c = c .before .before .before .before .before .before .before .before .before .before .before .before .before .run-from .kept .1 .1 .1 .0
@@ -108,10 +102,9 @@ returns-2 c =
     let ls = lists s in
     let e = r .run-from .result .end in
     let two = c .before .before .before .before .if1 .left in
-    let known = c .before .before .before .before .before .shared-slice-known3 .given (e - 1) in
     let look = c .outlook-of .ensures in
     subst (λ o. NextSegment (serviceOf (s .args .v)) ls (s .args .start) (foundAt ls (s .args .start) e o)) (sym look)
-    (next-lines (lists-good s) (r .run-from .ensures) (serviceOf (s .args .v)) (omega arith) (omega arith))
+    (next-lines (lists-good s) (r .run-from .ensures) (serviceOf (s .args .v)) (s .pre .tried .good) (omega arith))
 
 pub segment-from-spec : {M : Type 1} → statement M
 segment-from-spec =

@@ -1,13 +1,12 @@
 -- `values::numbers::size` meets its contract: neither x nor −x wraps, and the one that is cast is not below 0. Assumes nothing.
-use mathlib.Core.Path.{_≡_, ap, _∙_}
+use mathlib.Core.Path.{ap, _∙_}
 use mathlib.Core.List.{[], _∷_}
 use native.Mathlib.Omega.{arith}
-use lib.IntN.{pos, negℤ, natAbs, _-ℤ_}
+use lib.IntN.{pos, natAbs, _-ℤ_}
 use mir.Syntax.{w64}
 use borrow.Author.Needs.{needs}
-use Rattle.integers.specs.Quotes.{quotes}
 use Rattle.integers.specs.Bounds.{abs-neg-is}
-use Rattle.integers.specs.Machine.{Env, upto, _▹_, end, no-overflow!, machine-bound!, machine-value!, machine-linear!, reads, tests}
+use Rattle.integers.specs.Machine.{Env, upto, _▹_, end, no-overflow!, machine-bound!, machine-linear!, negated-is, reads, tests}
 use Rattle.values.specs.Signed.{as-i64, half64, cast-nonneg}
 use Rattle.values.proofs.numbers.size.Statement.{statement}
 use Rattle.values.proofs.numbers.size.Tie as tie
@@ -25,10 +24,7 @@ cast-result-2 : tie.Need-cast-result-2
 cast-result-2 c = cast-nonneg w64 (as-i64 (c .before .args .x)) (machine-linear! (env (c .before)) (c .if1 .left) (search tests depth 30) tt (omega arith)) (machine-bound! (env (c .before)) (search reads depth 30) tt) tt
 
 returns : tie.Need-returns
-returns c =
-    let x = c .before .args .x in
-    let e : as-i64 (pos 0 -ℤ as-i64 x) ≡ negℤ x = machine-value! (env (c .before)) (search reads depth 30) (search quotes depth 30) tt in
-    ap natAbs e ∙ abs-neg-is x
+returns c = ap natAbs (negated-is w64 (c .before .pre) tt) ∙ abs-neg-is (c .before .args .x)
 
 returns-2 : tie.Need-returns-2
 returns-2 c = search needs

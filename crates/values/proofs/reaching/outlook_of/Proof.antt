@@ -1,7 +1,10 @@
 -- `values::reaching::outlook_of` meets its contract, by those of what it calls. Assumes nothing.
+use Prim.Native.Nat.{ℕ, zero, suc}
+use mathlib.Core.Path.{_≡_, refl, ap}
 use borrow.Author.Needs.{needs}
+use Rattle.definitions.specs.Services.{falling, directionOf}
 use Rattle.values.specs.Meanings.{lineOf, serviceOf, outlookOf}
-use Rattle.values.specs.ReachLaws.{look-by}
+use Rattle.values.specs.ReachLaws.{look-rising, look-falling}
 use Rattle.values.proofs.reaching.outlook_of.Statement.{statement}
 use Rattle.values.proofs.reaching.outlook_of.Tie as tie
 
@@ -18,11 +21,24 @@ reduced-requires-2 : tie.Need-reduced-requires-2
 reduced-requires-2 c κs = search needs
 
 returns : tie.Need-returns
-unfolding outlookOf
+unfolding outlookOf directionOf
 returns c =
-    let a = c .before .before in
+    let a = c .before .before .before .before in
     let A = a .before .before .args in
-    look-by (lineOf (A .slow)) (lineOf (A .fast)) (serviceOf (A .v)) (A .last) (c .before .reduced .ensures .is) (c .reduced2 .ensures .is) (a .before .reach-time .ensures) (a .reach-time2 .ensures)
+    look-rising (lineOf (A .slow)) (lineOf (A .fast)) (serviceOf (A .v)) (A .last) (c .before .before .before .reduced .ensures .is) (c .before .before .reduced2 .ensures .is) (a .reach-time2 .ensures) (a .before .reach-time .ensures) (ap directionOf (c .if1 .taken))
+
+-- a direction that is not 0 is falling
+is-falling : (n : ℕ) → ¬ (n ≡ 0) → directionOf n ≡ falling
+unfolding directionOf
+is-falling zero other = absurd (other refl)
+is-falling (suc n) other = refl
+
+returns-2 : tie.Need-returns-2
+unfolding outlookOf
+returns-2 c =
+    let a = c .before .before .before .before in
+    let A = a .before .before .args in
+    look-falling (lineOf (A .slow)) (lineOf (A .fast)) (serviceOf (A .v)) (A .last) (c .before .before .before .reduced .ensures .is) (c .before .before .reduced2 .ensures .is) (a .reach-time2 .ensures) (a .before .reach-time .ensures) (is-falling (A .v .direction) (c .if1 .left))
 
 pub outlook-of-spec : {M : Type 1} → statement M
-outlook-of-spec = tie.close (tie.spec reach-time-requires reach-time-requires-2 reduced-requires reduced-requires-2 returns)
+outlook-of-spec = tie.close (tie.spec reach-time-requires reach-time-requires-2 reduced-requires reduced-requires-2 returns returns-2)

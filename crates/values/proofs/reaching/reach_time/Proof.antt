@@ -1,56 +1,56 @@
--- `values::reaching::reach_time` meets its contract: at `from` where the line is not below the level there, and else as `crossing_time` says. Assumes nothing.
-use mathlib.Core.Path.{_≡_, sym, ap, _∙_, subst}
-use mathlib.Core.Logic.{inl, inr}
-use mathlib.Core.List.{[], _∷_}
-use native.Mathlib.Omega.{arith}
-use lib.Dec.{T}
+-- `values::reaching::reach_time` meets its contract: where the trace falls, the mirror image of the line rises to the level negated when the line falls to the level. Assumes nothing.
+use Prim.Native.Nat.{ℕ, zero, suc}
+use mathlib.Core.Path.{_≡_, refl, sym, ap, ap₂, _∙_}
+use lib.IntN.{ℤ, negℤ}
 use mir.Syntax.{w32}
-use types.Run.{OneOf}
-use denote.Enum.Declared.{tagOf}
 use borrow.Author.Needs.{needs}
-use Rattle.definitions.specs.Lines.{sideAt, notBelow}
-use Rattle.values.specs.declared.Side.{Side}
-use Rattle.values.specs.declared.Side.the-variants.{Below, On, Above}
-use Rattle.values.specs.Meanings.{lineOf, serviceOf, sideOf, timeOf}
+use Rattle.integers.specs.Bounds.{fits, in-neg}
+use Rattle.integers.specs.Machine.{negated-in, negated-is}
+use Rattle.definitions.specs.Lines.{Line}
+use Rattle.definitions.specs.Mirrors.{mirroredLine}
+use Rattle.lines.specs.OutlookTimes.{reachTime, rises}
+use Rattle.lines.specs.Mirrored.{reachTime-falling}
+use Rattle.values.specs.Meanings.{lineOf}
 use Rattle.values.specs.Signed.{read-back}
-use Rattle.values.specs.Sides.{below-is, reached-is}
-use Rattle.values.specs.ReachLaws.{reach-now}
 use Rattle.values.proofs.reaching.reach_time.Statement.{statement}
 use Rattle.values.proofs.reaching.reach_time.Tie as tie
-use Rattle.values.proofs.Side.{the-type}
 
-side-requires : tie.Need-side-requires
-side-requires c κs = search needs
-
-enum-told : tie.Need-enum-told
-enum-told c = search needs
-
-tells : (c : tie.After-side) → sideOf (c .side .result) ≡ sideAt (lineOf (c .before .before .args .l)) (c .before .before .args .v .level) (c .before .before .args .from)
-tells c = c .side .ensures ∙ ap (λ z. sideAt (lineOf (c .before .before .args .l)) z (c .before .before .args .from)) (read-back w32 (c .before .before .pre .1) tt)
-
-crossing-time-requires : tie.Need-crossing-time-requires
-unfolding sideOf
-crossing-time-requires c κs =
-    let s = c .before .before .before .before in
-    (s .pre .0, s .pre .1, below-is (lineOf (s .args .l)) (s .args .v .level) (s .args .from) (sym (tells (c .before .before)) ∙ ap sideOf (c .enum-told .given .1)))
+rise-time-requires : tie.Need-rise-time-requires
+rise-time-requires c κs = search needs
 
 returns : tie.Need-returns
-returns c = c .crossing-time .ensures
+returns c =
+    let s = c .before .before .before .before in
+    let v = s .args .v in
+    c .rise-time .ensures
+    ∙ ap (λ z. reachTime (rises z) (s .args .from) (lineOf (s .args .l))) (read-back w32 (s .pre .1 .level-within) tt)
+    ∙ ap (λ n. reachTime (record { level = v .level; direction = n }) (s .args .from) (lineOf (s .args .l))) (sym (c .before .before .if1 .taken))
 
--- the second arm is that of the variants 1 and 2
-second-arm : (s : Side) → OneOf (1 ∷ 2 ∷ []) (tagOf the-type s) → T (notBelow (sideOf s))
-unfolding sideOf notBelow
-second-arm Below (inl e) = absurd (omega arith)
-second-arm Below (inr e) = absurd (omega arith)
-second-arm On k = tt
-second-arm Above k = tt
+mirrored-requires : tie.Need-mirrored-requires
+mirrored-requires c κs = search needs
+
+sub-rise-time : tie.Need-sub-rise-time
+sub-rise-time c = fits (negated-in w32 (c .before .before .before .before .before .pre .1 .level-within) tt) tt
+
+rise-time-requires-2 : tie.Need-rise-time-requires-2
+rise-time-requires-2 c κs =
+    let s = c .before .before .before .before .before in
+    (c .before .before .mirrored .ensures .small, rw (negated-is w32 (s .pre .1 .level-within) tt) (in-neg (s .pre .1 .level-within)))
+
+-- a direction that is not 0 is falling
+fallen : (level : ℤ) (n : ℕ) (from : ℕ) (l : Line) → ¬ (n ≡ 0) → reachTime (rises (negℤ level)) from (mirroredLine l) ≡ reachTime (record { level = level; direction = n }) from l
+fallen level zero from l other = absurd (other refl)
+fallen level (suc n) from l other = sym (reachTime-falling level n from l)
 
 returns-2 : tie.Need-returns-2
-unfolding timeOf
 returns-2 c =
-    let s = c .before .before .before in
-    sym (reach-now (lineOf (s .args .l)) (serviceOf (s .args .v)) (s .args .from) (omega arith)
-    (reached-is (lineOf (s .args .l)) (s .args .v .level) (s .args .from) (subst (λ z. T (notBelow z)) (tells (c .before)) (second-arm (c .before .side .result) (c .match .keys2)))))
+    let s = c .before .before .before .before .before .before in
+    let v = s .args .v in
+    c .rise-time2 .ensures
+    ∙ ap₂ (λ z k. reachTime (rises z) (s .args .from) k) (negated-is w32 (s .pre .1 .level-within) tt) (c .before .before .before .mirrored .ensures .is)
+    ∙ fallen (v .level) (v .direction) (s .args .from) (lineOf (s .args .l)) (c .before .before .before .before .if1 .left)
 
 pub reach-time-spec : {M : Type 1} → statement M
-reach-time-spec = tie.close (tie.spec side-requires enum-told crossing-time-requires returns returns-2)
+reach-time-spec =
+    tie.close
+    (tie.spec rise-time-requires returns mirrored-requires sub-rise-time rise-time-requires-2 returns-2)
