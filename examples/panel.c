@@ -4,7 +4,8 @@
  *   cc -std=c11 -Iinclude examples/panel.c target/staticlib/libhumoraki.a -o target/panel
  *   target/panel samples/example.trace samples/dusty.trace samples/wide.trace
  *
- * Files of one address go to one head, the earlier file first; the level is that of the later file.
+ * Files of one address go to one head, the earlier file first; level and direction are those of the later file. Heads
+ * whose signal rises and heads whose signal falls stand on one panel.
  */
 #include "humoraki.h"
 
@@ -13,17 +14,18 @@
 #include <stdio.h>
 #include <stdlib.h>
 
-/* The first 61,455 bytes decide, so bytes after these cannot matter. */
+/* The first 61,459 bytes decide, so bytes after these cannot matter. */
 #define FILE_ROOM 65536
 
 /* What a trace file says beside its ranges. */
 struct record {
     uint32_t address;
     int32_t level;
+    uint32_t direction;
     size_t ranges;
 };
 
-/* The panel. It keeps no level, so the record of each head's last file stands beside its entry. */
+/* The panel. It keeps no level and no direction, so the record of each head's last file stands beside its entry. */
 static struct {
     humoraki_entry entries[HUMORAKI_MOST_HEADS];
     struct record records[HUMORAKI_MOST_HEADS];
@@ -104,7 +106,8 @@ static bool add_file(const char *path) {
     static uint8_t file[FILE_ROOM];
     size_t length = read_file(path, file), added;
     struct record *record = &trace.record;
-    uint8_t refusal = humoraki_read(file, length, LISTS, &record->address, &record->level, &record->ranges);
+    uint8_t refusal = humoraki_read(file, length, LISTS,
+                                    &record->address, &record->level, &record->direction, &record->ranges);
     if (refusal != 0) {
         printf("%s: refused %d\n", path, refusal);
         return false;
@@ -122,7 +125,7 @@ static bool add_file(const char *path) {
 }
 
 static uint8_t find_segments(void) {
-    return humoraki_segment(trace.record.level,
+    return humoraki_segment(trace.record.level, trace.record.direction,
                             trace.times, trace.record.ranges,
                             trace.lows, trace.record.ranges,
                             trace.highs, trace.record.ranges,

@@ -10,7 +10,8 @@
  *    1   the file ends before a needed field, or inside a field
  *    2   the tag is not the one due
  *    3   the length is none that the tag may have
- *    4   address, level, low or high outside its span, or in a file an address below 256 in two bytes
+ *    4   address, level, direction, low or high outside its span, or in a file an address below 256 in two bytes or a
+ *        direction of 0
  *    5   low above high
  *    6   time not above the one before; on a panel, the one before of the same head
  *    7   a 4,097th range
@@ -43,7 +44,7 @@ extern "C" {
 
 /* The least number of entries in each slice that a function fills. */
 #define HUMORAKI_READ_ROOM 4096     /* times, lows, highs */
-#define HUMORAKI_WRITE_ROOM 61452   /* the bytes of a trace file */
+#define HUMORAKI_WRITE_ROOM 61456   /* the bytes of a trace file */
 #define HUMORAKI_SEGMENT_ROOM 2048  /* each column of a segment's row */
 #define HUMORAKI_CORNER_ROOM 8192   /* ps, qs, ds */
 #define HUMORAKI_REPORT_ROOM 524544 /* the text of a report: 256 bytes for each of 2,049 lines */
@@ -57,13 +58,22 @@ extern "C" {
 /* Stands for a time that there is not, in somes and alls, and in some and all of humoraki_preview. */
 #define HUMORAKI_NONE UINT64_C(4294967296)
 
+/*
+ * The direction in which dust moves a head's signal: up, or down, as of a beam head. It is taken next to each level and
+ * set by humoraki_read. Rising, a line has reached the level where it is at or above it; falling, at or below it.
+ */
+#define HUMORAKI_RISING 0
+#define HUMORAKI_FALLING 1
+
 /* What a range would do, in kind of humoraki_preview: join the last segment, or begin one. */
 #define HUMORAKI_JOINS 0
 #define HUMORAKI_BEGINS 1
 
 /*
  * The columns of a segment's row, as parameters in their order: slices, each filled with one entry for each segment.
- * A line has the value (p * t + q) / d at t. A segment of one range is open: it has 0 in every column after counts.
+ * A line has the value (p * t + q) / d at t. It has reached the level where that is at or above the level on a rising
+ * trace, and at or below it on a falling one. Slow is the line of least slope, fast that of greatest, on both.
+ * A segment of one range is open: it has 0 in every column after counts.
  */
 #define HUMORAKI_SEGMENT_COLUMNS \
     uint32_t *first_times, size_t first_times_len, /* the time of the segment's first range */ \
@@ -75,20 +85,21 @@ extern "C" {
     int64_t *fast_ps, size_t fast_ps_len,          /* the p of its fast line */ \
     int64_t *fast_qs, size_t fast_qs_len,          /* the q */ \
     int64_t *fast_ds, size_t fast_ds_len,          /* the d */ \
-    uint64_t *somes, size_t somes_len,             /* the first time from its last on at which some fitting line is */ \
-                                                   /* at or above the level, or HUMORAKI_NONE */ \
-    uint64_t *alls, size_t alls_len                /* the first at which every fitting line is, or HUMORAKI_NONE */
+    uint64_t *somes, size_t somes_len,             /* the first time from its last on at which some fitting line */ \
+                                                   /* has reached the level, or HUMORAKI_NONE */ \
+    uint64_t *alls, size_t alls_len                /* the first at which every fitting line has, or HUMORAKI_NONE */
 
 /*
  * Reads a trace file.
  *
- * file     the file's bytes, of any number
- * times    filled with the time of each range
- * lows     filled with the low of each range
- * highs    filled with the high of each range
- * address  set to the detector's address, 1 to 65,535: up to 255 the file has it in one byte, above in two
- * level    set to the service level
- * ranges   set to the number of ranges
+ * file       the file's bytes, of any number
+ * times      filled with the time of each range
+ * lows       filled with the low of each range
+ * highs      filled with the high of each range
+ * address    set to the detector's address, 1 to 65,535: up to 255 the file has it in one byte, above in two
+ * level      set to the service level
+ * direction  set to HUMORAKI_FALLING, which is 1, where the file says so, else to HUMORAKI_RISING, which is 0
+ * ranges     set to the number of ranges
  *
  * Refusals: 8, then field by field 1, 2, 3, 7, 1 for a body cut short, 4, 5, 6.
  */
@@ -96,7 +107,7 @@ uint8_t humoraki_read(const uint8_t *file, size_t file_len,
                       uint32_t *times, size_t times_len,
                       int32_t *lows, size_t lows_len,
                       int32_t *highs, size_t highs_len,
-                      uint32_t *address, int32_t *level, size_t *ranges);
+                      uint32_t *address, int32_t *level, uint32_t *direction, size_t *ranges);
 
 /*
  * Writes a trace file.
@@ -104,13 +115,15 @@ uint8_t humoraki_read(const uint8_t *file, size_t file_len,
  * address             the detector's address, 1 to 65,535; the file gets it in one byte up to 255, above in two.
  *                     None is cut to fit: 65,543, whose last 16 bits are 7, is refused with 4
  * level               the service level, -268,435,456 to 268,435,456
+ * direction           HUMORAKI_RISING or HUMORAKI_FALLING; the file of a falling trace has a field more.
+ *                     None is cut to fit: 256, whose last 8 bits are 0, is refused with 4
  * times, lows, highs  the ranges, in lists of one length
- * file                filled with the file's bytes, at most 61,452
+ * file                filled with the file's bytes, at most 61,456
  * count               set to the number of bytes
  *
- * Refusals: 8, 10, 7, address and level 4, then range by range 4, 5, 6.
+ * Refusals: 8, 10, 7, address, level and direction 4, then range by range 4, 5, 6.
  */
-uint8_t humoraki_write(uint32_t address, int32_t level,
+uint8_t humoraki_write(uint32_t address, int32_t level, uint32_t direction,
                        const uint32_t *times, size_t times_len,
                        const int32_t *lows, size_t lows_len,
                        const int32_t *highs, size_t highs_len,
@@ -121,13 +134,14 @@ uint8_t humoraki_write(uint32_t address, int32_t level,
  * The segments of a trace, with their slow and fast lines and their two times.
  *
  * level                     the service level, -268,435,456 to 268,435,456
+ * direction                 HUMORAKI_RISING or HUMORAKI_FALLING; any other number is refused with 4
  * times, lows, highs        the ranges, in lists of one length
  * HUMORAKI_SEGMENT_COLUMNS  the columns, filled
  * count                     set to the number of segments
  *
- * Refusals: 8, 10, 7, level 4, then range by range 4, 5, 6.
+ * Refusals: 8, 10, 7, level and direction 4, then range by range 4, 5, 6.
  */
-uint8_t humoraki_segment(int32_t level,
+uint8_t humoraki_segment(int32_t level, uint32_t direction,
                          const uint32_t *times, size_t times_len,
                          const int32_t *lows, size_t lows_len,
                          const int32_t *highs, size_t highs_len,
@@ -158,6 +172,7 @@ uint8_t humoraki_corners(size_t k,
  * last segment then. That is what humoraki_segment gives on a copy of the lists with the range behind it.
  *
  * level                   the service level, -268,435,456 to 268,435,456
+ * direction               HUMORAKI_RISING or HUMORAKI_FALLING; any other number is refused with 4
  * times, lows, highs      the ranges so far, in lists of one length, at most 4,095; read and not changed
  * time                    that of the range, above that of the last range so far
  * low, high               its low and high, -268,435,456 to 268,435,456, low at most high
@@ -165,17 +180,17 @@ uint8_t humoraki_corners(size_t k,
  *                         segment more than the lists
  * slow_p, slow_q, slow_d  set to the slow line of the last segment: the value at t is (p * t + q) / d
  * fast_p, fast_q, fast_d  set to its fast line
- * some                    set to the first time, from that of the range on, at which some fitting line is at or above
- *                         the level, or to HUMORAKI_NONE
- * all                     set to the first at which every fitting line is, or to HUMORAKI_NONE
+ * some                    set to the first time, from that of the range on, at which some fitting line has reached the
+ *                         level, as in humoraki_segment, or to HUMORAKI_NONE
+ * all                     set to the first at which every fitting line has, or to HUMORAKI_NONE
  *
  * A segment of one range is open: the eight numbers after kind are set to 0. That is so exactly if the range begins it,
  * as the first range of all does, where the lists are empty. The d of a line is above 0.
  *
- * Refusals: 10, 7, level 4, then range by range 4, 5, 6, the new range last. A full list, of 4,096 ranges, gets 7
- * whatever level and range are. No slice is filled, so there is no 8.
+ * Refusals: 10, 7, level and direction 4, then range by range 4, 5, 6, the new range last. A full list, of 4,096
+ * ranges, gets 7 whatever level, direction and range are. No slice is filled, so there is no 8.
  */
-uint8_t humoraki_preview(int32_t level,
+uint8_t humoraki_preview(int32_t level, uint32_t direction,
                          const uint32_t *times, size_t times_len,
                          const int32_t *lows, size_t lows_len,
                          const int32_t *highs, size_t highs_len,
@@ -212,8 +227,8 @@ uint8_t humoraki_report(const uint8_t *file, size_t file_len,
  *     uint32_t addresses[HUMORAKI_PANEL_ROOM], times[HUMORAKI_PANEL_ROOM];
  *     int32_t lows[HUMORAKI_PANEL_ROOM], highs[HUMORAKI_PANEL_ROOM];
  *
- * The lists need not be initialised: no call reads a place past those held. A head's service level, and whatever else
- * is known of it, stays with the caller.
+ * The lists need not be initialised: no call reads a place past those held. A head's service level and direction, and
+ * whatever else is known of it, stay with the caller.
  */
 typedef struct {
     uint32_t address; /* 1 to 65,535, in no other entry of the panel */

@@ -1,8 +1,8 @@
 /*
  * Tries from C what humoraki.h says of memory that is lent: a pointer beside a length of 0 may be null, and what a
  * function fills, sets or changes is written on success and left alone else. Then writes and reads back the addresses
- * at the ends of their span, hands in numbers past it, previews ranges, and fills a panel. Prints what is not so, and
- * then ends with 1.
+ * at the ends of their span and both directions, hands in numbers past them, previews ranges, and fills a panel. Prints
+ * what is not so, and then ends with 1.
  */
 #include "humoraki.h"
 
@@ -24,6 +24,7 @@ static struct {
     int32_t held_lows[HUMORAKI_PANEL_ROOM], held_highs[HUMORAKI_PANEL_ROOM];
     uint32_t address;
     int32_t level;
+    uint32_t direction;
     size_t ranges, count;
     uint32_t kind;
     int64_t slow_line[3], fast_line[3];
@@ -48,17 +49,19 @@ static void expect(int so, const char *call, const char *what) {
 
 /* The calls without any range or byte, and without the slice at the missing place. */
 
+/* What Read sets. */
+#define RECORD &lent.address, &lent.level, &lent.direction, &lent.ranges
+
 static uint8_t call_read(int missing) {
-    return humoraki_read(EMPTY, SLICE(0, times), SLICE(1, lows), SLICE(2, highs),
-                         &lent.address, &lent.level, &lent.ranges);
+    return humoraki_read(EMPTY, SLICE(0, times), SLICE(1, lows), SLICE(2, highs), RECORD);
 }
 
 static uint8_t call_write(int missing) {
-    return humoraki_write(7, 20, EMPTY, EMPTY, EMPTY, SLICE(0, file), &lent.count);
+    return humoraki_write(7, 20, HUMORAKI_RISING, EMPTY, EMPTY, EMPTY, SLICE(0, file), &lent.count);
 }
 
 static uint8_t call_segment(int missing) {
-    return humoraki_segment(20, EMPTY, EMPTY, EMPTY,
+    return humoraki_segment(20, HUMORAKI_RISING, EMPTY, EMPTY, EMPTY,
                             SLICE(0, first_times), SLICE(1, last_times), SLICE(2, counts),
                             SLICE(3, slow[0]), SLICE(4, slow[1]), SLICE(5, slow[2]),
                             SLICE(6, fast[0]), SLICE(7, fast[1]), SLICE(8, fast[2]),
@@ -77,7 +80,7 @@ static uint8_t call_corners(int missing) {
 /* Preview fills no slice, so none can be missing; its kind is told as the count. */
 static uint8_t call_preview(int missing) {
     (void)missing;
-    uint8_t number = humoraki_preview(20, EMPTY, EMPTY, EMPTY, 60, 13, 16, EFFECT);
+    uint8_t number = humoraki_preview(20, HUMORAKI_RISING, EMPTY, EMPTY, EMPTY, 60, 13, 16, EFFECT);
     if (number == 0)
         lent.count = lent.kind;
     return number;
@@ -144,7 +147,8 @@ static void try_addresses(void) {
         uint32_t address = addresses[at].address;
         int missing = -1;
         mark();
-        uint8_t number = humoraki_write(address, 20, EMPTY, EMPTY, EMPTY, SLICE(0, file), &lent.count);
+        uint8_t number =
+            humoraki_write(address, 20, HUMORAKI_RISING, EMPTY, EMPTY, EMPTY, SLICE(0, file), &lent.count);
         if (number != addresses[at].number) {
             fprintf(stderr, "address %lu: ", (unsigned long)address);
         }
@@ -154,10 +158,58 @@ static void try_addresses(void) {
             continue;
         }
         expect(lent.count == addresses[at].count, "write", "another count for an address");
-        number = humoraki_read(lent.file, lent.count, SLICE(0, times), SLICE(1, lows), SLICE(2, highs),
-                               &lent.address, &lent.level, &lent.ranges);
+        number = humoraki_read(lent.file, lent.count, SLICE(0, times), SLICE(1, lows), SLICE(2, highs), RECORD);
         expect(number == 0 && lent.address == address, "read", "an address does not come back");
     }
+}
+
+/* Two ranges with one line, 40 - t, and the level 10: rising, it is reached at the last range already, falling at 30. */
+static const uint32_t two_times[] = {10, 20};
+static const int32_t two_values[] = {30, 20};
+#define TWO two_times, 2, two_values, 2, two_values, 2
+
+static uint8_t write_two(uint32_t direction) {
+    int missing = -1;
+    return humoraki_write(7, 20, direction, TWO, SLICE(0, file), &lent.count);
+}
+
+static uint8_t segment_two(uint32_t direction) {
+    int missing = -1;
+    return humoraki_segment(10, direction, TWO,
+                            SLICE(0, first_times), SLICE(1, last_times), SLICE(2, counts),
+                            SLICE(3, slow[0]), SLICE(4, slow[1]), SLICE(5, slow[2]),
+                            SLICE(6, fast[0]), SLICE(7, fast[1]), SLICE(8, fast[2]),
+                            SLICE(9, somes), SLICE(10, alls), &lent.count);
+}
+
+static uint8_t preview_two(uint32_t direction) {
+    return humoraki_preview(10, direction, TWO, 25, 15, 15, EFFECT);
+}
+
+/* Both directions: each comes back from its file, and the line reaches the level when it does in that direction, with
+   the two ranges and with one range more. */
+static void try_direction(uint32_t direction, size_t count, uint64_t two, uint64_t three) {
+    int missing = -1;
+    mark();
+    expect(write_two(direction) == 0 && lent.count == count, "write", "another count for a direction");
+    expect(humoraki_read(lent.file, lent.count, SLICE(0, times), SLICE(1, lows), SLICE(2, highs), RECORD) == 0 &&
+               lent.direction == direction,
+           "read", "a direction does not come back");
+    expect(segment_two(direction) == 0 && lent.somes[0] == two && lent.alls[0] == two, "segment", "another time");
+    expect(preview_two(direction) == 0 && lent.some == three && lent.all == three, "preview", "another time");
+}
+
+static void try_directions(void) {
+    static const uint32_t outside[] = {2, 255, 256, 65536, 65537, UINT32_MAX};
+    try_direction(HUMORAKI_RISING, 41, 20, 25);
+    try_direction(HUMORAKI_FALLING, 45, 30, 30);
+    mark();
+    for (size_t at = 0; at < sizeof outside / sizeof outside[0]; at++) {
+        expect(write_two(outside[at]) == 4, "write", "a number that is no direction is not refused with 4");
+        expect(segment_two(outside[at]) == 4, "segment", "a number that is no direction is not refused with 4");
+        expect(preview_two(outside[at]) == 4, "preview", "a number that is no direction is not refused with 4");
+    }
+    expect(kept(), "segment", "something is changed although the direction is refused");
 }
 
 /* The effect of a range behind those of the first sample: the number, and on success the kind and the outlook. */
@@ -166,8 +218,8 @@ static void try_preview(int32_t level, uint32_t time, int32_t low, int32_t high,
     static const uint32_t times[] = {10, 20, 30, 40, 50};
     static const int32_t lows[] = {0, 4, 10, 9, 9}, highs[] = {4, 8, 14, 11, 12};
     mark();
-    expect(humoraki_preview(level, times, 5, lows, 5, highs, 5, time, low, high, EFFECT) == number, "preview",
-           "another number");
+    expect(humoraki_preview(level, HUMORAKI_RISING, times, 5, lows, 5, highs, 5, time, low, high, EFFECT) == number,
+           "preview", "another number");
     if (number != 0) {
         expect(kept(), "preview", "something is changed by a refusal");
         return;
@@ -252,6 +304,7 @@ int main(void) {
             expect(kept(), name, "something is changed by a refusal");
     }
     try_addresses();
+    try_directions();
     try_previews();
     try_panel();
     return failures == 0 ? 0 : 1;

@@ -28,11 +28,11 @@ impl Call {
         let ranges = trace.ranges();
         let mut count = 0;
         match self {
-            Call::Segment => lent::segment(trace.level, ranges, out.segments.columns(), &mut count)?,
+            Call::Segment => lent::segment(trace.service(), ranges, out.segments.columns(), &mut count)?,
             Call::Corners => lent::corners(ranges.times.len(), ranges, out.corners(), &mut count)?,
             Call::Preview => {
                 let (others, (time, low, high)) = last_apart(ranges);
-                lent::preview(trace.level, others, time, low, high, out.effect())?;
+                lent::preview(trace.service(), others, time, low, high, out.effect())?;
             }
         }
         Ok(count)
@@ -41,11 +41,11 @@ impl Call {
     pub fn unproved(self, trace: &Trace, out: &mut Buffers) -> Result<usize, u8> {
         let ranges = trace.ranges();
         match self {
-            Call::Segment => unproved::segment(trace.level, ranges, out.segments.columns()),
+            Call::Segment => unproved::segment(trace.service(), ranges, out.segments.columns()),
             Call::Corners => unproved::corners(ranges.times.len(), ranges, out.corners()),
             Call::Preview => {
                 let (others, last) = last_apart(ranges);
-                unproved::preview(trace.level, others, last, out.effect())?;
+                unproved::preview(trace.service(), others, last, out.effect())?;
                 Ok(0)
             }
         }

@@ -20,12 +20,17 @@ use traces::Shape;
 /// Each measure has so many rounds, spread over the run, so that no busy moment of the machine spoils one.
 const ROUNDS: usize = 20;
 
+/// The calls, each on these shapes. Only Segment asks for the direction again and again, once in each segment.
+const MEASURED: [(Call, &[Shape]); 3] = [
+    (Call::Segment, &[Shape::LongSegment, Shape::ShortSegments, Shape::FallingSegments, Shape::LargeChains]),
+    (Call::Corners, &[Shape::LongSegment, Shape::ShortSegments, Shape::LargeChains]),
+    (Call::Preview, &[Shape::LongSegment, Shape::ShortSegments, Shape::LargeChains]),
+];
+
 fn main() {
     let mut groups = Vec::new();
-    for call in [Call::Segment, Call::Corners, Call::Preview] {
-        for shape in [Shape::LongSegment, Shape::ShortSegments, Shape::LargeChains] {
-            groups.push(Group::new(call, shape));
-        }
+    for (call, shapes) in MEASURED {
+        groups.extend(shapes.iter().map(|shape| Group::new(call, *shape)));
     }
     let mut panels = [Task::Refused, Task::Filling, Task::Listing].map(PanelMeasure::new);
     let mut one = Buffers::new();

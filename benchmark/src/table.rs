@@ -30,6 +30,7 @@ fn shape_name(shape: Shape) -> &'static str {
     match shape {
         Shape::LongSegment => "one long segment",
         Shape::ShortSegments => "many short segments",
+        Shape::FallingSegments => "many short segments, falling",
         Shape::LargeChains => "large chains",
     }
 }

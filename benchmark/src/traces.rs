@@ -1,7 +1,7 @@
-//! The traces that are measured, in three shapes.
+//! The traces that are measured, in three shapes, one of them upside down as well.
 
 use crate::random::Random;
-use humoraki::Trace;
+use humoraki::{Direction, Trace};
 
 /// Large, so that the times have as many digits in a short trace as in a long one.
 const FIRST_TIME: i64 = 10_000_000;
@@ -12,12 +12,21 @@ pub enum Shape {
     LongSegment,
     /// Readings in no order: a segment has two or three ranges.
     ShortSegments,
+    /// The same upside down, on falling traces.
+    FallingSegments,
     /// Highs on a bowl and lows on its mirror image: every end is a corner of the fit.
     LargeChains,
 }
 
 fn trace(level: i32, ranges: impl Iterator<Item = (i64, i64, i64)>) -> Trace {
-    let mut trace = Trace { address: 1, level, times: Vec::new(), lows: Vec::new(), highs: Vec::new() };
+    let mut trace = Trace {
+        address: 1,
+        level,
+        direction: Direction::Rising,
+        times: Vec::new(),
+        lows: Vec::new(),
+        highs: Vec::new(),
+    };
     for (time, low, high) in ranges {
         trace.times.push(time as u32);
         trace.lows.push(low as i32);
@@ -51,6 +60,13 @@ fn short_segments(n: usize, random: &mut Random) -> Trace {
     trace(40_000, ranges)
 }
 
+fn falling_segments(n: usize, random: &mut Random) -> Trace {
+    let Trace { address, level, times, lows, highs, .. } = short_segments(n, random);
+    let negated = |values: Vec<i32>| values.into_iter().map(|value| -value).collect();
+    let (lows, highs) = (negated(highs), negated(lows));
+    Trace { address, level: -level, direction: Direction::Falling, times, lows, highs }
+}
+
 fn large_chains(n: usize, random: &mut Random) -> Trace {
     let middle = n as i64 / 2;
     // Bend and step go with the length, so that times and values are as large in a short trace as in a long one.
@@ -71,6 +87,7 @@ pub fn traces(shape: Shape, n: usize, number: usize) -> Vec<Trace> {
     let make = match shape {
         Shape::LongSegment => long_segment,
         Shape::ShortSegments => short_segments,
+        Shape::FallingSegments => falling_segments,
         Shape::LargeChains => large_chains,
     };
     (0..number).map(|_| make(n, &mut random)).collect()

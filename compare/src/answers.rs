@@ -7,7 +7,7 @@ use crate::outlook::Outlook;
 use crate::panel::Panel;
 use crate::report;
 use crate::segments::{Fitter, Segment, Stage, segments, stages};
-use crate::trace::{Lists, Range, Trace};
+use crate::trace::{Lists, Range, Service, Trace};
 use crate::trial;
 use std::borrow::Borrow;
 
@@ -20,8 +20,8 @@ pub struct Effect {
 
 impl Effect {
     /// The effect of the last range of a stage.
-    pub fn at(stage: &Stage, ranges: &[Range], level: i32) -> Effect {
-        let segment = stage.segment(ranges, level);
+    pub fn at(stage: &Stage, ranges: &[Range], service: Service) -> Effect {
+        let segment = stage.segment(ranges, service);
         Effect { begins: segment.count == 1, outlook: segment.outlook }
     }
 }
@@ -30,19 +30,19 @@ pub fn read(file: &[u8]) -> Result<Trace, u8> {
     file::read(file)
 }
 
-pub fn write(address: u32, level: i32, lists: &Lists) -> Result<Vec<u8>, u8> {
+pub fn write(address: u32, service: Service, lists: &Lists) -> Result<Vec<u8>, u8> {
     trial::lengths(lists)?;
     trial::address(address)?;
-    trial::value(level)?;
+    trial::service(&service)?;
     let ranges = trial::ranges(lists)?;
-    Ok(file::bytes(&Trace { address, level, ranges }))
+    Ok(file::bytes(&Trace { address, service, ranges }))
 }
 
-pub fn segment(level: i32, lists: &Lists, fitter: Fitter) -> Result<Vec<Segment>, u8> {
+pub fn segment(service: Service, lists: &Lists, fitter: Fitter) -> Result<Vec<Segment>, u8> {
     trial::lengths(lists)?;
-    trial::value(level)?;
+    trial::service(&service)?;
     let ranges = trial::ranges(lists)?;
-    Ok(segments(&ranges, level, fitter))
+    Ok(segments(&ranges, service, fitter))
 }
 
 pub fn corners(k: usize, lists: &Lists, fitter: Fitter) -> Result<Vec<Line>, u8> {
@@ -61,9 +61,9 @@ pub fn prefix(k: usize, lists: &Lists) -> Result<Vec<Range>, u8> {
 }
 
 /// The range is added to a copy of the lists, and both are segmented.
-pub fn preview(level: i32, lists: &Lists, range: &Range, fitter: Fitter) -> Result<Effect, u8> {
-    let after = segment(level, &lists.with(range), fitter)?;
-    let before = segment(level, lists, fitter)?;
+pub fn preview(service: Service, lists: &Lists, range: &Range, fitter: Fitter) -> Result<Effect, u8> {
+    let after = segment(service, &lists.with(range), fitter)?;
+    let before = segment(service, lists, fitter)?;
     let last = after.last().expect("a segment with the range");
     Ok(Effect { begins: after.len() == before.len() + 1, outlook: last.outlook.clone() })
 }
@@ -71,7 +71,7 @@ pub fn preview(level: i32, lists: &Lists, range: &Range, fitter: Fitter) -> Resu
 pub fn report(file: &[u8], fitter: Fitter) -> String {
     match file::read(file) {
         Err(number) => report::refused(number),
-        Ok(trace) => report::accepted(&trace, &segments(&trace.ranges, trace.level, fitter)),
+        Ok(trace) => report::accepted(&trace, &segments(&trace.ranges, trace.service, fitter)),
     }
 }
 

@@ -3,18 +3,21 @@
 // Damages of one kind have one type, though some need no more than a slice.
 #![allow(clippy::ptr_arg)]
 
-use crate::file::{bytes, field_start};
+use crate::file::{bytes, field_start, fields_of_header};
 use crate::random::Random;
 use crate::trace::{LARGEST_VALUE, LEAST_VALUE, Trace};
+use crate::traces::services::no_direction;
 
 type ValueDamage = fn(&mut Trace, &mut Random);
 type ByteDamage = fn(&mut Vec<u8>, &mut Random);
 
-const OF_VALUES: [ValueDamage; 6] =
-    [zero_address, level_outside, low_outside, high_outside, low_above_high, time_not_rising];
-const OF_BYTES: [ByteDamage; 12] = [
+const OF_VALUES: [ValueDamage; 7] =
+    [zero_address, level_outside, direction_outside, low_outside, high_outside, low_above_high, time_not_rising];
+const OF_BYTES: [ByteDamage; 14] = [
     address_widened,
     address_length_turned,
+    direction_put,
+    direction_changed,
     other_tag,
     other_length,
     field_removed,
@@ -53,7 +56,12 @@ fn zero_address(trace: &mut Trace, _: &mut Random) {
 }
 
 fn level_outside(trace: &mut Trace, random: &mut Random) {
-    trace.level = outside(random);
+    trace.service.level = outside(random);
+}
+
+/// The file has its last eight bits, which may be good ones.
+fn direction_outside(trace: &mut Trace, random: &mut Random) {
+    trace.service.direction = no_direction(random);
 }
 
 fn low_outside(trace: &mut Trace, random: &mut Random) {
@@ -103,9 +111,32 @@ fn address_length_turned(file: &mut Vec<u8>, random: &mut Random) {
     }
 }
 
+/// Puts a direction before some field or behind the last, good or not. Where one may stand, it is good or one too many.
+fn direction_put(file: &mut Vec<u8>, random: &mut Random) {
+    let any = some_field(file, random).unwrap_or(0);
+    let start = random.pick(&[field_start(file, 2), any, file.len()]).min(file.len());
+    file.splice(start..start, direction_field(random));
+}
+
+/// Puts another direction in the place of one that is there.
+fn direction_changed(file: &mut Vec<u8>, random: &mut Random) {
+    if fields_of_header(file) == 3 {
+        let end = file.len().min(field_start(file, 3));
+        file.splice(field_start(file, 2)..end, direction_field(random));
+    }
+}
+
+/// A field with tag 4: often a good one, else with another value, another length, or a body that is not as long.
+fn direction_field(random: &mut Random) -> Vec<u8> {
+    let value = random.pick(&[1, 1, 1, 0, 2, 255]);
+    let length = random.pick(&[1, 1, 1, 0, 2, 4]);
+    let body = random.pick(&[1, length as usize]);
+    [vec![4, 0, length], vec![value; body]].concat()
+}
+
 fn other_tag(file: &mut Vec<u8>, random: &mut Random) {
     if let Some(start) = some_field(file, random) {
-        file[start] = random.pick(&[0, 1, 2, 3, 4, 255]);
+        file[start] = random.pick(&[0, 1, 2, 3, 4, 5, 255]);
     }
 }
 
@@ -171,7 +202,7 @@ fn some_place(count: usize, random: &mut Random) -> Option<usize> {
     (count > 0).then(|| random.below(count))
 }
 
-/// Where one of the fields that are due begins.
+/// Where one of the fields that are there begins.
 fn some_field(file: &[u8], random: &mut Random) -> Option<usize> {
     let fields = (0..).take_while(|&field| field_start(file, field) < file.len()).count();
     some_place(fields, random).map(|field| field_start(file, field))

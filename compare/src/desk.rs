@@ -18,7 +18,7 @@ use crate::random::Random;
 use crate::room::Room;
 use crate::segments::{BY_CLIPPING, Fitter, Segment, segments};
 use crate::tally::{Call, Tally};
-use crate::trace::{Lists, Range, Trace};
+use crate::trace::{Lists, Range, Service, Trace};
 
 pub struct Desk {
     pub random: Random,
@@ -58,36 +58,43 @@ impl Desk {
         judged.map_err(|wrong| wrong.in_call(Told::on_file(format!("Read, {room}"), file)))
     }
 
-    pub fn write(&mut self, handed: (u32, i32, &Lists), expected: Result<&[u8], u8>, room: &Room) -> Outcome {
+    pub fn write(&mut self, handed: (u32, Service, &Lists), expected: Result<&[u8], u8>, room: &Room) -> Outcome {
         let returned = self.write.call(handed, expected, room, &mut self.random);
         let judged = judged(returned, &mut self.alteration, &mut self.random, &mut self.tally);
-        let (address, level, lists) = handed;
-        let call = || format!("Write, address {address}, level {level}, {room}");
-        judged.map_err(|wrong| wrong.in_call(Told::on_lists(call(), lists, address, level)))
+        let (address, service, lists) = handed;
+        let call = || format!("Write, address {address}, {}, {room}", service.in_words());
+        judged.map_err(|wrong| wrong.in_call(Told::on_lists(call(), lists, address, service)))
     }
 
-    pub fn segment(&mut self, level: i32, lists: &Lists, expected: Result<&[Segment], u8>, room: &Room) -> Outcome {
-        let returned = self.segment.call((level, lists), expected, room, &mut self.random);
+    pub fn segment(
+        &mut self,
+        service: Service,
+        lists: &Lists,
+        expected: Result<&[Segment], u8>,
+        room: &Room,
+    ) -> Outcome {
+        let returned = self.segment.call((service, lists), expected, room, &mut self.random);
         let judged = judged(returned, &mut self.alteration, &mut self.random, &mut self.tally);
-        let call = || format!("Segment, level {level}, {room}");
-        judged.map_err(|wrong| wrong.in_call(Told::on_lists(call(), lists, 1, level)))
+        let call = || format!("Segment, {}, {room}", service.in_words());
+        judged.map_err(|wrong| wrong.in_call(Told::on_lists(call(), lists, 1, service)))
     }
 
     pub fn corners(&mut self, k: usize, lists: &Lists, expected: Result<&[Line], u8>, room: &Room) -> Outcome {
         let returned = self.corners.call((k, lists), expected, room, &mut self.random);
         let judged = judged(returned, &mut self.alteration, &mut self.random, &mut self.tally);
-        judged.map_err(|wrong| wrong.in_call(Told::on_lists(format!("Corners, k {k}, {room}"), lists, 1, 0)))
+        let call = || format!("Corners, k {k}, {room}");
+        judged.map_err(|wrong| wrong.in_call(Told::on_lists(call(), lists, 1, Service::rising(0))))
     }
 
-    pub fn preview(&mut self, handed: (i32, &Lists, &Range), expected: Result<&Effect, u8>) -> Outcome {
+    pub fn preview(&mut self, handed: (Service, &Lists, &Range), expected: Result<&Effect, u8>) -> Outcome {
         let returned = self.preview.call(handed, expected, &mut self.random);
         let judged = judged(returned, &mut self.alteration, &mut self.random, &mut self.tally);
         let begins = expected.map(|effect| effect.begins);
         self.tally.add("previews: the range joins", (begins == Ok(false)) as usize);
         self.tally.add("previews: the range begins a segment", (begins == Ok(true)) as usize);
-        let (level, lists, Range { time, low, high }) = handed;
-        let call = || format!("Preview, level {level}, time {time}, low {low}, high {high}");
-        judged.map_err(|wrong| wrong.in_call(Told::on_lists(call(), lists, 1, level)))
+        let (service, lists, Range { time, low, high }) = handed;
+        let call = || format!("Preview, {}, time {time}, low {low}, high {high}", service.in_words());
+        judged.map_err(|wrong| wrong.in_call(Told::on_lists(call(), lists, 1, service)))
     }
 
     pub fn report(&mut self, file: &[u8], expected: &str, room: &Room) -> Outcome {
@@ -114,10 +121,10 @@ impl Desk {
     }
 
     /// Head ranges of a head that holds these ranges, and Segment on the lists that it left.
-    pub fn head_segments(&mut self, panel: &Panel, address: u32, ranges: &[Range], level: i32) -> Outcome {
+    pub fn head_segments(&mut self, panel: &Panel, address: u32, ranges: &[Range], service: Service) -> Outcome {
         self.head_ranges((panel, address), Ok(ranges), &Room::enough())?;
-        let segments = segments(ranges, level, BY_CLIPPING);
-        self.segment(level, &self.head_ranges.left(), Ok(&segments), &Room::enough())
+        let segments = segments(ranges, service, BY_CLIPPING);
+        self.segment(service, &self.head_ranges.left(), Ok(&segments), &Room::enough())
     }
 
     /// Read and the report of a file that may be damaged; where it is accepted, Write gives its bytes back.
@@ -125,8 +132,8 @@ impl Desk {
         let expected = answers::read(file);
         self.read(file, borrowed(&expected), &Room::enough())?;
         self.report(file, &answers::report(file, fitter), &Room::enough())?;
-        if let Ok(Trace { address, level, ranges }) = expected {
-            self.write((address, level, &Lists::of(&ranges)), Ok(file), &Room::enough())?;
+        if let Ok(Trace { address, service, ranges }) = expected {
+            self.write((address, service, &Lists::of(&ranges)), Ok(file), &Room::enough())?;
         }
         Ok(())
     }

@@ -20,6 +20,7 @@ mod file;
 mod lent;
 mod line;
 mod meaning;
+mod mirror;
 mod mode;
 mod outlook;
 mod panel;
@@ -90,6 +91,7 @@ fn all_rounds(desk: &mut Desk, traces: usize) -> Outcome {
     rounds::preview_cases::compare(desk)?;
     rounds::small_traces::compare(desk, traces)?;
     rounds::addresses::compare(desk)?;
+    rounds::directions::compare(desk)?;
     rounds::damaged_files::compare(desk, traces)?;
     rounds::field_faults::compare(desk)?;
     rounds::list_faults::compare(desk)?;

@@ -7,14 +7,14 @@ use crate::line::{Line, turn};
 use crate::outlook::Outlook;
 use crate::segments::{BY_CLIPPING, BY_TRYING, Segment, Stage, stages};
 use crate::splits::{closed_by_three, no_split_is_better};
-use crate::trace::{Lists, Range, Trace};
+use crate::trace::{FALLING, Lists, Range, Service, Trace};
 
 /// How many times from a segment's last are tried one by one.
 const TRIED: u32 = 60;
 
 /// The stages are those of the trace by trying all lines, and the segments come from them.
 pub fn check(trace: &Trace, stages: &[Stage], segments: &[Segment]) -> Outcome {
-    match fault(&trace.ranges, trace.level, stages, segments) {
+    match fault(&trace.ranges, trace.service, stages, segments) {
         None => Ok(()),
         Some(fault) => Err(difference(trace, format!("{fault}\n{stages:?}\n{segments:?}"))),
     }
@@ -27,7 +27,7 @@ pub fn check_fitters(ranges: &[Range]) -> Outcome {
     match by_trying.zip(by_clipping).find(|(tried, clipped)| tried != clipped) {
         None => Ok(()),
         Some((tried, clipped)) => {
-            let trace = Trace { address: 1, level: 0, ranges: ranges.to_vec() };
+            let trace = Trace { address: 1, service: Service::rising(0), ranges: ranges.to_vec() };
             Err(difference(&trace, format!("by trying {tried:?}\nby clipping {clipped:?}")))
         }
     }
@@ -35,7 +35,7 @@ pub fn check_fitters(ranges: &[Range]) -> Outcome {
 
 fn difference(trace: &Trace, given: String) -> Box<Difference> {
     Box::new(Difference {
-        call: format!("the brute force itself, level {}", trace.level),
+        call: format!("the brute force itself, {}", trace.service.in_words()),
         ranges: Lists::of(&trace.ranges).in_words(),
         expected: "agreement with the words of the scope".to_string(),
         given,
@@ -44,7 +44,7 @@ fn difference(trace: &Trace, given: String) -> Box<Difference> {
 }
 
 /// Nothing, or what is wrong.
-fn fault(ranges: &[Range], level: i32, stages: &[Stage], segments: &[Segment]) -> Option<&'static str> {
+fn fault(ranges: &[Range], service: Service, stages: &[Stage], segments: &[Segment]) -> Option<&'static str> {
     for stage in stages {
         if !corners_are_sound(&ranges[stage.begin..stage.end], &stage.corners) {
             return Some("a corner does not fit, or is between two others");
@@ -54,7 +54,7 @@ fn fault(ranges: &[Range], level: i32, stages: &[Stage], segments: &[Segment]) -
     for segment in segments {
         let begin = ends.last().copied().unwrap_or(0);
         let end = begin + segment.count;
-        if !times_are_least(segment, &stages[end - 1].corners, level) {
+        if !times_are_least(segment, &stages[end - 1].corners, service) {
             return Some("one of the two times is not the least");
         }
         if end < ranges.len() && !closed_by_three(&ranges[begin..end], &ranges[end]) {
@@ -78,19 +78,24 @@ fn corners_are_sound(run: &[Range], corners: &[Line]) -> bool {
 }
 
 /// Both times are tried one by one for a while, and wherever a corner crosses the level.
-fn times_are_least(segment: &Segment, corners: &[Line], level: i32) -> bool {
+fn times_are_least(segment: &Segment, corners: &[Line], service: Service) -> bool {
     let Outlook::Lines { some, all, .. } = segment.outlook else {
         return segment.count == 1;
     };
-    let reaches = |line: &Line, time: u32| line.above(level as i128, time as i128) >= 0;
-    let some_does = |time: u32| corners.iter().any(|line| reaches(line, time));
-    let all_do = |time: u32| corners.iter().all(|line| reaches(line, time));
+    let some_has = |time: u32| corners.iter().any(|line| has_reached(line, time as i128, service));
+    let all_have = |time: u32| corners.iter().all(|line| has_reached(line, time as i128, service));
     let mut tried: Vec<u32> = (segment.last..=segment.last.saturating_add(TRIED)).collect();
-    let crossings = corners.iter().flat_map(|line| crossings(line, level));
+    let crossings = corners.iter().flat_map(|line| crossings(line, service.level));
     tried.extend(crossings.filter(|&time| time >= segment.last));
     tried.sort();
     let first = |holds: &dyn Fn(u32) -> bool| tried.iter().copied().find(|&time| holds(time));
-    first(&some_does) == some && first(&all_do) == all
+    first(&some_has) == some && first(&all_have) == all
+}
+
+/// Whether a line is at or above the level at a time; at or below it, if the trace falls.
+pub fn has_reached(line: &Line, time: i128, service: Service) -> bool {
+    let above = line.above(service.level as i128, time);
+    if service.direction == FALLING { above <= 0 } else { above >= 0 }
 }
 
 /// The times next to the one at which a line is at the level, on both sides.

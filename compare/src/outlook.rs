@@ -3,7 +3,7 @@
 //! At any time the highest and the lowest line of the fit are among the corners, so the corners answer for all lines.
 
 use crate::line::Line;
-use crate::trace::LAST_TIME;
+use crate::trace::{FALLING, LAST_TIME, Service};
 
 #[derive(Clone, PartialEq, Eq, Debug)]
 pub enum Outlook {
@@ -12,13 +12,13 @@ pub enum Outlook {
 }
 
 /// The outlook of a segment that ends at `last`; it has no corners if it has one range.
-pub fn outlook(corners: &[Line], last: u32, level: i32) -> Outlook {
+pub fn outlook(corners: &[Line], last: u32, service: Service) -> Outlook {
     let slow = corners.iter().min_by(|a, b| a.order(b));
     let fast = corners.iter().max_by(|a, b| a.order(b));
     let (Some(&slow), Some(&fast)) = (slow, fast) else {
         return Outlook::Open;
     };
-    let spans: Vec<Span> = corners.iter().map(|line| reached(line, last, level)).collect();
+    let spans: Vec<Span> = corners.iter().map(|line| reached(line, last, service)).collect();
     let some = spans.iter().filter(|span| span.from <= span.to).map(|span| span.from).min();
     let from = spans.iter().map(|span| span.from).max();
     let to = spans.iter().map(|span| span.to).min();
@@ -32,15 +32,29 @@ struct Span {
     to: i128,
 }
 
-/// The times from the last time on at which one line is at or above the level.
-fn reached(line: &Line, last: u32, level: i32) -> Span {
+/// The times from the last time on at which one line is at or above the level, or at or below it if the trace falls.
+fn reached(line: &Line, last: u32, service: Service) -> Span {
     let whole = Span { from: last as i128, to: LAST_TIME as i128 };
-    // p·t is to be at least this
-    let need = line.d * level as i128 - line.q;
-    match line.p.signum() {
-        1 => Span { from: whole.from.max(-(-need).div_euclid(line.p)), ..whole },
-        -1 => Span { to: whole.to.min((-need).div_euclid(-line.p)), ..whole },
-        _ if need <= 0 => whole,
+    let bound = line.d * service.level as i128 - line.q;
+    if service.direction == FALLING { at_most(line.p, bound, whole) } else { at_least(line.p, bound, whole) }
+}
+
+/// The times at which p·t is not below the bound.
+fn at_least(p: i128, bound: i128, whole: Span) -> Span {
+    match p.signum() {
+        1 => Span { from: whole.from.max(-(-bound).div_euclid(p)), ..whole },
+        -1 => Span { to: whole.to.min((-bound).div_euclid(-p)), ..whole },
+        _ if bound <= 0 => whole,
+        _ => Span { from: whole.to + 1, ..whole },
+    }
+}
+
+/// The times at which p·t is not above the bound.
+fn at_most(p: i128, bound: i128, whole: Span) -> Span {
+    match p.signum() {
+        1 => Span { to: whole.to.min(bound.div_euclid(p)), ..whole },
+        -1 => Span { from: whole.from.max(-bound.div_euclid(-p)), ..whole },
+        _ if bound >= 0 => whole,
         _ => Span { from: whole.to + 1, ..whole },
     }
 }

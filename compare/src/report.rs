@@ -3,14 +3,14 @@
 use crate::line::Line;
 use crate::outlook::Outlook;
 use crate::segments::Segment;
-use crate::trace::Trace;
+use crate::trace::{Service, Trace};
 
 pub fn refused(number: u8) -> String {
     format!("refused {number}\n")
 }
 
 pub fn accepted(trace: &Trace, segments: &[Segment]) -> String {
-    let Trace { address, level, ranges } = trace;
+    let Trace { address, service: Service { level, .. }, ranges } = trace;
     let (ranges, count) = (ranges.len(), segments.len());
     let mut text = format!("detector {address} level {level} ranges {ranges} segments {count}\n");
     for (place, segment) in segments.iter().enumerate() {

@@ -3,7 +3,7 @@
 use crate::clipping;
 use crate::line::Line;
 use crate::outlook::{Outlook, outlook};
-use crate::trace::Range;
+use crate::trace::{Range, Service};
 use crate::trying;
 use std::iter::successors;
 
@@ -48,13 +48,13 @@ impl Stage {
     }
 
     /// The segment as it is at this stage.
-    pub fn segment(&self, ranges: &[Range], level: i32) -> Segment {
+    pub fn segment(&self, ranges: &[Range], service: Service) -> Segment {
         let last = ranges[self.end - 1].time;
         Segment {
             first: ranges[self.begin].time,
             last,
             count: self.end - self.begin,
-            outlook: outlook(&self.corners, last, level),
+            outlook: outlook(&self.corners, last, service),
         }
     }
 
@@ -73,10 +73,10 @@ pub fn stages(ranges: &[Range], fitter: Fitter) -> impl Iterator<Item = Stage> +
     successors(first, move |stage| stage.next(ranges, fitter))
 }
 
-pub fn segments(ranges: &[Range], level: i32, fitter: Fitter) -> Vec<Segment> {
+pub fn segments(ranges: &[Range], service: Service, fitter: Fitter) -> Vec<Segment> {
     let mut last_stages = Vec::new();
     for stage in stages(ranges, fitter) {
         stage.keep(&mut last_stages);
     }
-    last_stages.iter().map(|stage| stage.segment(ranges, level)).collect()
+    last_stages.iter().map(|stage| stage.segment(ranges, service)).collect()
 }

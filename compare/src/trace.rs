@@ -6,6 +6,17 @@ pub const LARGEST_VALUE: i32 = 268_435_456;
 pub const MOST_RANGES: usize = 4096;
 pub const LARGEST_ADDRESS: u32 = 65_535;
 
+/// The numbers of the two directions.
+pub const RISING: u32 = 0;
+pub const FALLING: u32 = 1;
+
+/// What a call takes with lists to tell times, as a caller may hand it in: with any numbers.
+#[derive(Clone, Copy, PartialEq, Eq, Debug)]
+pub struct Service {
+    pub level: i32,
+    pub direction: u32,
+}
+
 #[derive(Clone, Copy, PartialEq, Eq, Debug)]
 pub struct Range {
     pub time: u32,
@@ -16,8 +27,22 @@ pub struct Range {
 #[derive(Clone, PartialEq, Eq, Debug)]
 pub struct Trace {
     pub address: u32,
-    pub level: i32,
+    pub service: Service,
     pub ranges: Vec<Range>,
+}
+
+impl Service {
+    pub fn rising(level: i32) -> Service {
+        Service { level, direction: RISING }
+    }
+
+    pub fn falling(level: i32) -> Service {
+        Service { level, direction: FALLING }
+    }
+
+    pub fn in_words(&self) -> String {
+        format!("level {}, direction {}", self.level, self.direction)
+    }
 }
 
 /// Three lists as a caller may hand them in: of any lengths, with any numbers.

@@ -19,7 +19,7 @@ macro_rules! segment_columns {
             fast_qs: i64,
             fast_ds: i64,
             // the first times, from the segment's last on, at which some fitting line and at which every fitting line
-            // is at or above the level, or `NONE`
+            // has reached the level, at or above it on a rising trace, at or below it on a falling one, or `NONE`
             somes: u64,
             alls: u64,
         }

@@ -10,6 +10,14 @@ use super::declarations::{
 };
 use super::{Entry, SEGMENT_ROOM};
 
+/// What a detector is watched for: the level, and the number of the direction in which its signal drifts, `RISING` or
+/// `FALLING`. Any other number is refused with 4, and none is cut to fit.
+#[derive(Clone, Copy, Debug, PartialEq, Eq)]
+pub struct Service {
+    pub level: i32,
+    pub direction: u32,
+}
+
 /// The ranges of a trace, in three lists.
 #[derive(Clone, Copy)]
 pub struct Ranges<'a> {
@@ -23,6 +31,14 @@ pub struct Lines<'a> {
     pub ps: &'a mut [i64],
     pub qs: &'a mut [i64],
     pub ds: &'a mut [i64],
+}
+
+/// The numbers of a trace's record, to be set; `direction` is `RISING` or `FALLING`.
+pub struct RecordMut<'a> {
+    pub address: &'a mut u32,
+    pub level: &'a mut i32,
+    pub direction: &'a mut u32,
+    pub ranges: &'a mut usize,
 }
 
 /// The numbers of an effect, to be set: its kind, `JOINS` or `BEGINS`, and the lines and times of an outlook, with 0 in
@@ -83,23 +99,17 @@ macro_rules! call {
     }};
 }
 
-/// Reads a trace file: fills the three slices, and sets address, level and the number of ranges.
-pub fn read(
-    file: &[u8],
-    times: &mut [u32],
-    lows: &mut [i32],
-    highs: &mut [i32],
-    address: &mut u32,
-    level: &mut i32,
-    ranges: &mut usize,
-) -> Result<(), u8> {
-    call!(humoraki_read(; file; ; times, lows, highs; address, level, ranges))
+/// Reads a trace file: fills three slices with its ranges, and sets the numbers of its record.
+pub fn read(file: &[u8], into: RangesMut, record: RecordMut) -> Result<(), u8> {
+    let RecordMut { address, level, direction, ranges } = record;
+    call!(humoraki_read(; file; ; into.times, into.lows, into.highs; address, level, direction, ranges))
 }
 
 /// Fills a slice with the bytes of a trace's file, and sets their count. An address is 1 to 65,535; any other number is
 /// refused with 4.
-pub fn write(address: u32, level: i32, ranges: Ranges, file: &mut [u8], count: &mut usize) -> Result<(), u8> {
-    call!(humoraki_write(address, level; ranges.times, ranges.lows, ranges.highs; ; file; count))
+pub fn write(address: u32, service: Service, ranges: Ranges, file: &mut [u8], count: &mut usize) -> Result<(), u8> {
+    let Service { level, direction } = service;
+    call!(humoraki_write(address, level, direction; ranges.times, ranges.lows, ranges.highs; ; file; count))
 }
 
 /// Fills three slices with the corners of the fit of the segment then running after the first k ranges, and sets their
@@ -109,10 +119,18 @@ pub fn corners(k: usize, ranges: Ranges, corners: Lines, count: &mut usize) -> R
 }
 
 /// Sets the numbers to the effect that a range would have behind some ranges, at most 4,095; none of these is changed.
-pub fn preview(level: i32, ranges: Ranges, time: u32, low: i32, high: i32, effect: EffectMut) -> Result<(), u8> {
+pub fn preview(
+    service: Service,
+    ranges: Ranges,
+    time: u32,
+    low: i32,
+    high: i32,
+    effect: EffectMut,
+) -> Result<(), u8> {
+    let Service { level, direction } = service;
     let EffectMut { kind, slow_p, slow_q, slow_d, fast_p, fast_q, fast_d, some, all } = effect;
     call!(humoraki_preview(
-        level; ranges.times, ranges.lows, ranges.highs; ; ;
+        level, direction; ranges.times, ranges.lows, ranges.highs; ; ;
         time, low, high, kind, slow_p, slow_q, slow_d, fast_p, fast_q, fast_d, some, all
     ))
 }
@@ -145,8 +163,11 @@ macro_rules! over_columns {
         }
 
         /// Fills the columns with the segments of a trace, and sets their count.
-        pub fn segment(level: i32, ranges: Ranges, columns: Columns, count: &mut usize) -> Result<(), u8> {
-            call!(humoraki_segment(level; ranges.times, ranges.lows, ranges.highs; ; $(columns.$column),*; count))
+        pub fn segment(service: Service, ranges: Ranges, columns: Columns, count: &mut usize) -> Result<(), u8> {
+            let Service { level, direction } = service;
+            call!(humoraki_segment(
+                level, direction; ranges.times, ranges.lows, ranges.highs; ; $(columns.$column),*; count
+            ))
         }
 
         /// Columns of the least length with memory of their own, to be lent as often as needed.

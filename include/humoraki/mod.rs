@@ -20,13 +20,13 @@ pub mod panel;
 #[cfg(test)]
 mod tests;
 
-use self::lent::{EffectMut, Lines, Ranges, Table};
+use self::lent::{EffectMut, Lines, Ranges, RangesMut, RecordMut, Service, Table};
 
 /// The least length of each list that `lent::read` fills.
 pub const READ_ROOM: usize = 4096;
 
 /// The least length of the file that `lent::write` fills.
-pub const WRITE_ROOM: usize = 61_452;
+pub const WRITE_ROOM: usize = 61_456;
 
 /// The least length of each column that `lent::segment` fills.
 pub const SEGMENT_ROOM: usize = 2048;
@@ -46,23 +46,53 @@ pub const MOST_HEADS: usize = 64;
 /// Stands for a time that there is not, in the columns `somes` and `alls`, and in `some` and `all` of `lent::preview`.
 pub const NONE: u64 = 4_294_967_296;
 
+/// The number of the direction of a head whose signal dust raises, in `lent::Service` and `lent::RecordMut`.
+pub const RISING: u32 = 0;
+
+/// That of one whose signal dust lowers, as of a beam head.
+pub const FALLING: u32 = 1;
+
 /// The kind that `lent::preview` sets where the range joins the last segment.
 pub const JOINS: u32 = 0;
 
 /// The kind that it sets where the range begins a segment.
 pub const BEGINS: u32 = 1;
 
-/// A trace: a detector's address, 1 to 65,535, its service level and its ranges, in three lists of one length.
+/// The way that dust moves a head's signal: up, or down, as of a beam head. A line has reached the level where it is at
+/// or above it on a rising trace, at or below it on a falling one.
+#[derive(Clone, Copy, Debug, PartialEq, Eq)]
+pub enum Direction {
+    Rising,
+    Falling,
+}
+
+impl Direction {
+    /// `RISING` or `FALLING`.
+    pub fn number(self) -> u32 {
+        match self {
+            Direction::Rising => RISING,
+            Direction::Falling => FALLING,
+        }
+    }
+}
+
+/// A trace: a detector's address, 1 to 65,535, its service level, the direction in which its signal drifts, and its
+/// ranges, in three lists of one length.
 #[derive(Clone, Debug, PartialEq, Eq)]
 pub struct Trace {
     pub address: u32,
     pub level: i32,
+    pub direction: Direction,
     pub times: Vec<u32>,
     pub lows: Vec<i32>,
     pub highs: Vec<i32>,
 }
 
 impl Trace {
+    pub fn service(&self) -> Service {
+        Service { level: self.level, direction: self.direction.number() }
+    }
+
     pub fn ranges(&self) -> Ranges<'_> {
         Ranges { times: &self.times, lows: &self.lows, highs: &self.highs }
     }
@@ -114,7 +144,10 @@ pub fn meaning(refusal: u8) -> &'static str {
         1 => "the file ends before a needed field, or inside a field",
         2 => "the tag is not the one due",
         3 => "the length is none that the tag may have",
-        4 => "address, level, low or high outside its span, or in a file an address below 256 in two bytes",
+        4 => {
+            "address, level, direction, low or high outside its span, or in a file an address below 256 in two bytes \
+             or a direction of 0"
+        }
         5 => "low above high",
         6 => "time not above the one before; on a panel, the one before of the same head",
         7 => "a 4,097th range",
@@ -136,20 +169,24 @@ pub fn read(file: &[u8]) -> Result<Trace, u8> {
     let mut times = vec![0; READ_ROOM];
     let mut lows = vec![0; READ_ROOM];
     let mut highs = vec![0; READ_ROOM];
-    let (mut address, mut level, mut ranges) = (0, 0, 0);
-    lent::read(file, &mut times, &mut lows, &mut highs, &mut address, &mut level, &mut ranges)?;
+    let (mut address, mut level, mut direction, mut ranges) = (0, 0, 0, 0);
+    let into = RangesMut { times: &mut times, lows: &mut lows, highs: &mut highs };
+    let record =
+        RecordMut { address: &mut address, level: &mut level, direction: &mut direction, ranges: &mut ranges };
+    lent::read(file, into, record)?;
     times.truncate(ranges);
     lows.truncate(ranges);
     highs.truncate(ranges);
-    Ok(Trace { address, level, times, lows, highs })
+    let direction = if direction == RISING { Direction::Rising } else { Direction::Falling };
+    Ok(Trace { address, level, direction, times, lows, highs })
 }
 
 /// The bytes of a trace's file. An address up to 255 takes one of them, a larger one two; one past 65,535 is refused
-/// with 4 and not cut.
+/// with 4 and not cut. A falling trace has four bytes more, which say so.
 pub fn write(trace: &Trace) -> Result<Vec<u8>, u8> {
     let mut file = vec![0; WRITE_ROOM];
     let mut count = 0;
-    lent::write(trace.address, trace.level, trace.ranges(), &mut file, &mut count)?;
+    lent::write(trace.address, trace.service(), trace.ranges(), &mut file, &mut count)?;
     file.truncate(count);
     Ok(file)
 }
@@ -158,7 +195,7 @@ pub fn write(trace: &Trace) -> Result<Vec<u8>, u8> {
 pub fn segment(trace: &Trace) -> Result<Vec<Segment>, u8> {
     let mut table = Table::holding(0);
     let mut count = 0;
-    lent::segment(trace.level, trace.ranges(), table.columns(), &mut count)?;
+    lent::segment(trace.service(), trace.ranges(), table.columns(), &mut count)?;
     Ok((0..count).map(|place| segment_at(&table, place)).collect())
 }
 
@@ -186,7 +223,7 @@ pub fn preview(trace: &Trace, time: u32, low: i32, high: i32) -> Result<Effect, 
         some: &mut some,
         all: &mut all,
     };
-    lent::preview(trace.level, trace.ranges(), time, low, high, effect)?;
+    lent::preview(trace.service(), trace.ranges(), time, low, high, effect)?;
     let outlook = outlook_of(kind == BEGINS, slow, fast, some, all);
     Ok(if kind == JOINS { Effect::Joins(outlook) } else { Effect::Begins(outlook) })
 }

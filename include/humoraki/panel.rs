@@ -4,7 +4,7 @@
 mod tests;
 
 use super::lent::{self, PanelMut, Ranges, RangesMut};
-use super::{Entry, PANEL_ROOM, Trace};
+use super::{Direction, Entry, PANEL_ROOM, Trace};
 
 /// The ranges of up to 64 heads, 4,096 in all: one entry for each head, and four lists in whose first places the ranges
 /// stand in the order in which they were accepted.
@@ -42,8 +42,8 @@ impl Panel {
         lent::add(panel, address, time, low, high)
     }
 
-    /// The ranges of one head as a trace. A panel knows no level, so it is handed in.
-    pub fn trace(&self, address: u32, level: i32) -> Result<Trace, u8> {
+    /// The ranges of one head as a trace. A panel knows no level and no direction, so both are handed in.
+    pub fn trace(&self, address: u32, level: i32, direction: Direction) -> Result<Trace, u8> {
         let ranges = Ranges { times: &self.times, lows: &self.lows, highs: &self.highs };
         let panel = lent::Panel { entries: &self.entries, addresses: &self.addresses, ranges };
         let mut times = vec![0; PANEL_ROOM];
@@ -55,6 +55,6 @@ impl Panel {
         times.truncate(count);
         lows.truncate(count);
         highs.truncate(count);
-        Ok(Trace { address, level, times, lows, highs })
+        Ok(Trace { address, level, direction, times, lows, highs })
     }
 }

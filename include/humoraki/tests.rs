@@ -12,10 +12,26 @@ fn example() -> Trace {
     Trace {
         address: 7,
         level: 20,
+        direction: Direction::Rising,
         times: vec![10, 20, 30, 40, 50],
         lows: vec![0, 4, 10, 9, 9],
         highs: vec![4, 8, 14, 11, 12],
     }
+}
+
+/// That of the beam head: the first with each value taken from 40.
+fn beam() -> Trace {
+    Trace {
+        direction: Direction::Falling,
+        lows: vec![36, 32, 26, 29, 28],
+        highs: vec![40, 36, 30, 31, 31],
+        ..example()
+    }
+}
+
+/// The level of both, with this number for the direction.
+fn service(direction: u32) -> Service {
+    Service { level: 20, direction }
 }
 
 fn line(p: i64, q: i64, d: i64) -> Line {
@@ -28,6 +44,59 @@ fn a_written_trace_reads_back() {
     assert_eq!(file.len(), 86);
     assert_eq!(read(&file), Ok(example()));
     assert_eq!(read(&file[..85]), Err(1));
+}
+
+#[test]
+fn a_falling_trace_has_a_field_more() {
+    let file = write(&beam()).unwrap();
+    assert_eq!((file.len(), &file[11..15]), (90, &[4, 0, 1, 1][..]));
+    assert_eq!(read(&file), Ok(beam()));
+    let rising = write(&Trace { direction: Direction::Rising, ..beam() }).unwrap();
+    assert_eq!(rising, [&file[..11], &file[15..]].concat());
+}
+
+/// What is told of the first fields of the example with these bytes behind them.
+fn told_behind(bytes: &[u8]) -> Result<Direction, u8> {
+    let file = [&[1, 0, 1, 7, 2, 0, 4, 0, 0, 0, 20], bytes].concat();
+    read(&file).map(|trace| trace.direction)
+}
+
+#[test]
+fn a_direction_has_one_form() {
+    assert_eq!(told_behind(&[]), Ok(Direction::Rising));
+    assert_eq!(told_behind(&[4, 0, 1, 1]), Ok(Direction::Falling));
+    for value in [0, 2, 255] {
+        assert_eq!(told_behind(&[4, 0, 1, value]), Err(4));
+    }
+    assert_eq!(told_behind(&[4, 0, 1, 1, 4, 0, 1, 1]), Err(2));
+    for length in [0, 2, 255] {
+        assert_eq!(told_behind(&[4, 0, length, 1]), Err(3));
+    }
+    assert_eq!(told_behind(&[4, 1, 1, 1]), Err(3));
+    for end in 1..4 {
+        assert_eq!(told_behind(&[4, 0, 1, 1][..end]), Err(1));
+    }
+}
+
+#[test]
+fn a_direction_stands_directly_after_the_level() {
+    let range = [3, 0, 12, 0, 0, 0, 10, 0, 0, 0, 0, 0, 0, 0, 4];
+    assert_eq!(told_behind(&[&[4, 0, 1, 1][..], &range].concat()), Ok(Direction::Falling));
+    assert_eq!(told_behind(&[&range[..], &[4, 0, 1, 1]].concat()), Err(2));
+    assert_eq!(read(&[1, 0, 1, 7, 4, 0, 1, 1, 2, 0, 4, 0, 0, 0, 20]), Err(2));
+}
+
+#[test]
+fn a_direction_is_refused_and_not_cut() {
+    let (trace, mut file, mut count) = (example(), vec![77; WRITE_ROOM], 77);
+    let (mut table, mut numbers) = (Table::holding(77), (77, [77; 6], [77; 2]));
+    for direction in [2, 256, 65_537, u32::MAX] {
+        let service = service(direction);
+        assert_eq!(lent::write(7, service, trace.ranges(), &mut file, &mut count), Err(4));
+        assert_eq!(lent::segment(service, trace.ranges(), table.columns(), &mut count), Err(4));
+        assert_eq!(lent::preview(service, trace.ranges(), 60, 13, 16, effect_of(&mut numbers)), Err(4));
+    }
+    assert_eq!((file, count, table, numbers), (vec![77; WRITE_ROOM], 77, Table::holding(77), (77, [77; 6], [77; 2])));
 }
 
 /// The address field of the file that Write makes.
@@ -89,12 +158,14 @@ fn the_length_of_an_address_is_tried_before_its_body() {
 #[test]
 fn the_largest_file_fills_its_room() {
     let times: Vec<u32> = (0..4096).collect();
-    let trace = Trace { address: 65_535, level: 0, lows: vec![0; 4096], highs: vec![0; 4096], times };
+    let trace = Trace { address: 65_535, times, lows: vec![0; 4096], highs: vec![0; 4096], ..beam() };
     assert_eq!(write(&trace).map(|file| file.len()), Ok(WRITE_ROOM));
-    let mut file = vec![77; WRITE_ROOM - 1];
-    let mut count = 77;
-    assert_eq!(lent::write(7, 20, example().ranges(), &mut file, &mut count), Err(8));
-    assert_eq!((file, count), (vec![77; WRITE_ROOM - 1], 77));
+    for direction in [RISING, FALLING, 2] {
+        let mut file = vec![77; WRITE_ROOM - 1];
+        let mut count = 77;
+        assert_eq!(lent::write(7, service(direction), example().ranges(), &mut file, &mut count), Err(8));
+        assert_eq!((file, count), (vec![77; WRITE_ROOM - 1], 77));
+    }
 }
 
 #[test]
@@ -108,6 +179,24 @@ fn segments_have_their_lines_and_times() {
         outlook: Outlook::Lines { slow: line(-1, 95, 5), fast: line(3, -30, 10), some: Some(77), all: None },
     };
     assert_eq!(segments[1], last);
+}
+
+#[test]
+fn a_falling_trace_is_the_image_of_a_rising_one() {
+    let [first, last] = segment(&beam()).unwrap()[..] else { panic!("not two segments") };
+    let outlook = Outlook::Lines { slow: line(-7, 470, 10), fast: line(-3, 390, 10), some: Some(39), all: Some(64) };
+    assert_eq!(first, Segment { first_time: 10, last_time: 30, ranges: 3, outlook });
+    let outlook = Outlook::Lines { slow: line(-3, 430, 10), fast: line(1, 105, 5), some: Some(77), all: None };
+    assert_eq!(last, Segment { first_time: 40, last_time: 50, ranges: 2, outlook });
+    let rising = segment(&Trace { direction: Direction::Rising, ..beam() }).unwrap();
+    assert!(matches!(rising[0].outlook, Outlook::Lines { some: Some(30), all: Some(30), .. }));
+}
+
+#[test]
+fn a_preview_of_a_falling_trace() {
+    let joined = Outlook::Lines { slow: line(-3, 430, 10), fast: line(-1, 330, 10), some: Some(77), all: Some(130) };
+    assert_eq!(preview(&beam(), 60, 24, 27), Ok(Effect::Joins(joined)));
+    assert_eq!(preview(&beam(), 60, 22, 24), Ok(Effect::Begins(Outlook::Open)));
 }
 
 #[test]
@@ -194,7 +283,7 @@ fn a_column_that_is_too_short_changes_nothing() {
     table.alls.truncate(SEGMENT_ROOM - 1);
     let before = table.clone();
     let mut count = 5;
-    let refusal = lent::segment(20, example().ranges(), table.columns(), &mut count);
+    let refusal = lent::segment(service(RISING), example().ranges(), table.columns(), &mut count);
     assert_eq!((refusal, count), (Err(8), 5));
     assert_eq!(table, before);
 }
@@ -203,7 +292,7 @@ fn a_column_that_is_too_short_changes_nothing() {
 fn entries_past_the_count_hold_what_they_held() {
     let mut table = Table::holding(77);
     let mut count = 0;
-    assert_eq!(lent::segment(20, example().ranges(), table.columns(), &mut count), Ok(()));
+    assert_eq!(lent::segment(service(RISING), example().ranges(), table.columns(), &mut count), Ok(()));
     assert_eq!((count, &table.alls[..3]), (2, &[64, NONE, 77][..]));
 }
 
@@ -232,7 +321,7 @@ macro_rules! over_columns {
 
         fn segment_without(missing: &str, columns: Columns, count: &mut usize) -> u8 {
             let Columns { $($column),* } = columns;
-            call_without!(missing, humoraki_segment(20; u32, i32, i32; $($column),*; count))
+            call_without!(missing, humoraki_segment(20, RISING; u32, i32, i32; $($column),*; count))
         }
     };
 }
@@ -243,11 +332,12 @@ segment_columns!(over_columns);
 fn read_takes_null_slices() {
     for (missing, number) in [("times", 8), ("lows", 8), ("highs", 8), ("nothing", 1)] {
         let (mut times, mut lows, mut highs) = ([77; READ_ROOM], [77; READ_ROOM], [77; READ_ROOM]);
-        let (mut address, mut level, mut ranges) = (77, 77, 77);
-        let set = (&mut address, &mut level, &mut ranges);
-        assert_eq!(call_without!(missing, humoraki_read(; u8; times, lows, highs; set.0, set.1, set.2)), number);
+        let (mut address, mut level, mut direction, mut ranges) = (77, 77, 77, 77);
+        let set = (&mut address, &mut level, &mut direction, &mut ranges);
+        let refusal = call_without!(missing, humoraki_read(; u8; times, lows, highs; set.0, set.1, set.2, set.3));
+        assert_eq!(refusal, number);
         assert_eq!((times, lows, highs), ([77; READ_ROOM], [77; READ_ROOM], [77; READ_ROOM]));
-        assert_eq!((address, level, ranges), (77, 77, 77));
+        assert_eq!((address, level, direction, ranges), (77, 77, 77, 77));
     }
 }
 
@@ -255,10 +345,12 @@ fn read_takes_null_slices() {
 fn write_takes_null_slices() {
     let mut file = [77; WRITE_ROOM];
     let mut count = 77;
-    assert_eq!(call_without!("file", humoraki_write(7, 20; u32, i32, i32; file; &mut count)), 8);
+    assert_eq!(call_without!("file", humoraki_write(7, 20, RISING; u32, i32, i32; file; &mut count)), 8);
     assert_eq!((file, count), ([77; WRITE_ROOM], 77));
-    assert_eq!(call_without!("nothing", humoraki_write(7, 20; u32, i32, i32; file; &mut count)), 0);
+    assert_eq!(call_without!("nothing", humoraki_write(7, 20, RISING; u32, i32, i32; file; &mut count)), 0);
     assert_eq!(file[..count], [1, 0, 1, 7, 2, 0, 4, 0, 0, 0, 20]);
+    assert_eq!(call_without!("nothing", humoraki_write(7, 20, FALLING; u32, i32, i32; file; &mut count)), 0);
+    assert_eq!(file[..count], [1, 0, 1, 7, 2, 0, 4, 0, 0, 0, 20, 4, 0, 1, 1]);
 }
 
 #[test]
@@ -283,12 +375,18 @@ fn corners_takes_null_slices() {
     }
 }
 
-/// The number of a preview on null lists, with the kind, the lines and the times that it is to set.
-fn preview_without(low: i32, (kind, lines, times): &mut (u32, [i64; 6], [u64; 2])) -> u8 {
+/// The kind, the lines and the times that a preview is to set.
+fn effect_of((kind, lines, times): &mut (u32, [i64; 6], [u64; 2])) -> EffectMut<'_> {
     let [slow_p, slow_q, slow_d, fast_p, fast_q, fast_d] = lines.each_mut();
     let [some, all] = times.each_mut();
+    EffectMut { kind, slow_p, slow_q, slow_d, fast_p, fast_q, fast_d, some, all }
+}
+
+/// The number of a preview on null lists.
+fn preview_without(low: i32, numbers: &mut (u32, [i64; 6], [u64; 2])) -> u8 {
+    let EffectMut { kind, slow_p, slow_q, slow_d, fast_p, fast_q, fast_d, some, all } = effect_of(numbers);
     call_without!("nothing", humoraki_preview(
-        20; u32, i32, i32; ; 60, low, 16, kind, slow_p, slow_q, slow_d, fast_p, fast_q, fast_d, some, all
+        20, RISING; u32, i32, i32; ; 60, low, 16, kind, slow_p, slow_q, slow_d, fast_p, fast_q, fast_d, some, all
     ))
 }
 

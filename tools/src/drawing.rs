@@ -44,6 +44,7 @@ const GAP: f64 = 10.0;
 struct Drawing {
     axes: Axes,
     level: f64,
+    falling: bool,
     bar: f64,
     shapes: Shapes,
 }
@@ -63,6 +64,7 @@ pub fn picture(trace: &Lines, segments: &[Segment]) -> String {
         bar: bar_width(&axes, &trace.ranges),
         axes,
         level: f64::from(trace.level),
+        falling: trace.falling,
         shapes: Shapes::default(),
     };
     drawing.bands(segments);
@@ -76,7 +78,8 @@ pub fn picture(trace: &Lines, segments: &[Segment]) -> String {
     drawing.rows(&shown);
     let below = FIRST_ROW + ROW * shown.len() as f64;
     drawing.legend(below + 0.4 * LEGEND);
-    let title = format!("detector {}, service level {}", trace.address, trace.level);
+    let falling = if trace.falling { ", falling" } else { "" };
+    let title = format!("detector {}, service level {}{falling}", trace.address, trace.level);
     drawing.shapes.heading((MARGIN, 40.0), INK, &title);
     drawing.shapes.picture(WIDTH, below + LEGEND, &title)
 }
@@ -203,7 +206,7 @@ impl Drawing {
         self.shapes.text((x, FRAME.top - 14.0), Side::Left, INK, "signal");
     }
 
-    /// Where the fitting lines go on after a segment, as long as they are below the level.
+    /// Where the fitting lines go on after a segment, as long as they have not reached the level.
     fn fans(&mut self, shown: &[Shown]) {
         for Shown { segment, outlook, .. } in shown {
             let Outlook { slow, fast, .. } = **outlook;
@@ -220,24 +223,36 @@ impl Drawing {
         }
     }
 
-    /// When a line, from a time on, reaches the level, the lower edge of the view or its end.
+    /// When a line, from a time on, reaches the level, the edge of the view away from it or its end.
     fn leaves(&self, line: Line, from: f64) -> f64 {
-        let reaches = |value: f64| (line.d * value - line.q) / line.p;
+        let meets = |value: f64| (line.d * value - line.q) / line.p;
         let end = self.axes.times.1;
-        if value(line, from) >= self.level {
+        let comes_near = if self.falling { line.p < 0.0 } else { line.p > 0.0 };
+        if self.is_reached(value(line, from)) {
             from
-        } else if line.p > 0.0 {
-            reaches(self.level).min(end)
-        } else if line.p < 0.0 {
-            reaches(self.axes.values.0).min(end)
-        } else {
+        } else if line.p == 0.0 {
             end
+        } else if comes_near {
+            meets(self.level).min(end)
+        } else {
+            meets(self.away_from_level()).min(end)
         }
     }
 
-    /// A line's value, or the nearest one between the lower edge of the view and the level.
+    fn is_reached(&self, value: f64) -> bool {
+        if self.falling { value <= self.level } else { value >= self.level }
+    }
+
+    /// The lower edge of the view, from which a signal rises to the level; the upper one if it falls.
+    fn away_from_level(&self) -> f64 {
+        let (lower, upper) = self.axes.values;
+        if self.falling { upper } else { lower }
+    }
+
+    /// A line's value, or the nearest one between that edge of the view and the level.
     fn shown_value(&self, line: Line, time: f64) -> f64 {
-        value(line, time).clamp(self.axes.values.0, self.level)
+        let away = self.away_from_level();
+        value(line, time).clamp(away.min(self.level), away.max(self.level))
     }
 
     fn line(&mut self, line: Line, (from, to): (f64, f64), pen: Pen) {

@@ -1,5 +1,6 @@
-//! Reads a trace from text: `detector ADDRESS level LEVEL`, then a line `time low high` for each
-//! range. Blank lines do not count, nor does what follows a `#`.
+//! Reads a trace from text: `detector ADDRESS level LEVEL`, then a line `falling` if dust lowers the
+//! signal, then a line `time low high` for each range. Blank lines do not count, nor does what
+//! follows a `#`.
 //!
 //! The library turns down the same input, but by a number alone. What is tried here tells a person
 //! which line is wrong, and how.
@@ -16,11 +17,15 @@ pub struct Range {
 pub struct Lines {
     pub address: u32,
     pub level: i32,
+    pub falling: bool,
     pub ranges: Vec<Range>,
 }
 
 const MOST_RANGES: usize = 4096;
 const FIRST_LINE: &str = "detector ADDRESS level LEVEL";
+
+/// The line after the first of a trace whose signal falls.
+pub const FALLING: &str = "falling";
 
 /// A number by its name, and where it has to lie, ends included.
 struct Span {
@@ -41,18 +46,20 @@ const HIGH: Span = value("high");
 
 /// The trace that a text describes, or what is wrong with its first bad line.
 pub fn parse(text: &str) -> Result<Lines, String> {
-    let mut lines =
+    let lines =
         text.lines().zip(1..).map(|(line, number)| (number, words(line))).filter(|(_, words)| !words.is_empty());
+    let mut lines = lines.peekable();
     let Some((number, first)) = lines.next() else {
         return Err(format!("no lines; expected first: {FIRST_LINE}"));
     };
     let (address, level) = parse_first(&first).map_err(|wrong| at_line(number, wrong))?;
+    let falling = lines.next_if(|(_, words)| is_falling(words)).is_some();
     let mut ranges = Vec::new();
     for (number, words) in lines {
         let range = parse_next(&words, &ranges).map_err(|wrong| at_line(number, wrong))?;
         ranges.push(range);
     }
-    Ok(Lines { address, level, ranges })
+    Ok(Lines { address, level, falling, ranges })
 }
 
 fn at_line(number: u64, wrong: String) -> String {
@@ -91,7 +98,14 @@ fn parse_next(words: &[&str], before: &[Range]) -> Result<Range, String> {
     }
 }
 
+fn is_falling(words: &[&str]) -> bool {
+    words == [FALLING]
+}
+
 fn parse_range(words: &[&str]) -> Result<Range, String> {
+    if is_falling(words) {
+        return Err(format!("found '{FALLING}'; expected it once, directly after the first line"));
+    }
     let [time, low, high] = words else {
         let found = words.join(" ");
         return Err(format!("found '{found}'; expected three numbers: time low high"));

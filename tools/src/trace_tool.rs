@@ -11,13 +11,13 @@ use std::process::ExitCode;
 
 mod lines;
 
-use humoraki::Trace;
-use lines::Lines;
+use humoraki::{Direction, Trace};
+use lines::{FALLING, Lines};
 
 const USAGE: &str = "usage: trace-tool make < LINES > FILE
        trace-tool show < FILE > LINES
-LINES: first 'detector ADDRESS level LEVEL', then 'time low high' for each range;
-       blank lines do not count, nor does what follows a '#'";
+LINES: first 'detector ADDRESS level LEVEL', then 'falling' if dust lowers the signal, then
+       'time low high' for each range; blank lines do not count, nor does what follows a '#'";
 
 /// The report program reads this much of a file; later bytes cannot matter.
 const MOST_BYTES: u64 = 65_536;
@@ -73,6 +73,7 @@ fn trace_of(lines: &Lines) -> Trace {
     Trace {
         address: lines.address,
         level: lines.level,
+        direction: if lines.falling { Direction::Falling } else { Direction::Rising },
         times: lines.ranges.iter().map(|range| range.time).collect(),
         lows: lines.ranges.iter().map(|range| range.low).collect(),
         highs: lines.ranges.iter().map(|range| range.high).collect(),
@@ -82,6 +83,9 @@ fn trace_of(lines: &Lines) -> Trace {
 /// The lines of a trace, as `lines::parse` reads them.
 fn text_of(trace: &Trace) -> String {
     let mut text = format!("detector {} level {}\n", trace.address, trace.level);
+    if trace.direction == Direction::Falling {
+        text += &format!("{FALLING}\n");
+    }
     for ((time, low), high) in trace.times.iter().zip(&trace.lows).zip(&trace.highs) {
         text += &format!("{time} {low} {high}\n");
     }

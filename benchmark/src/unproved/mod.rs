@@ -14,15 +14,15 @@ mod trial;
 
 use chains::Chains;
 use ends::{Bar, Ends};
-use humoraki::lent::{Columns, EffectMut, Lines, Panel, PanelMut, Ranges, RangesMut};
+use humoraki::lent::{Columns, EffectMut, Lines, Panel, PanelMut, Ranges, RangesMut, Service};
 use outlook::Outlook;
 use rows::Segment;
 
 /// The number of segments, or of a refusal.
 // A call of its own, as that of the library is, so that nothing of it moves into the loop that measures.
 #[inline(never)]
-pub fn segment(level: i32, ranges: Ranges, mut out: Columns) -> Result<usize, u8> {
-    trial::try_segment(level, ranges, &out)?;
+pub fn segment(service: Service, ranges: Ranges, mut out: Columns) -> Result<usize, u8> {
+    trial::try_segment(service, ranges, &out)?;
     let mut up = [0; trial::MOST_RANGES];
     let mut down = [0; trial::MOST_RANGES];
     let mut chains = Chains { up: &mut up, down: &mut down };
@@ -30,7 +30,7 @@ pub fn segment(level: i32, ranges: Ranges, mut out: Columns) -> Result<usize, u8
     let mut start = 0;
     let mut count = 0;
     while start < n {
-        let segment = segment_from(level, ranges, &mut chains, start);
+        let segment = segment_from(service, ranges, &mut chains, start);
         rows::store(&mut out, count, segment);
         start += segment.count;
         count += 1;
@@ -39,12 +39,12 @@ pub fn segment(level: i32, ranges: Ranges, mut out: Columns) -> Result<usize, u8
 }
 
 /// The segment that begins at range `start`: the run from there on, and its outlook.
-fn segment_from(level: i32, ranges: Ranges, chains: &mut Chains, start: u32) -> Segment {
+fn segment_from(service: Service, ranges: Ranges, chains: &mut Chains, start: u32) -> Segment {
     let reach = run::run_from(Ends::of(ranges), chains, start, ranges.times.len() as u32);
     let last_time = ranges.times[reach.end as usize - 1];
     let outlook = match reach.polygon {
         None => Outlook::Open,
-        Some(polygon) => Outlook::of_lines(polygon.slow, polygon.fast, level, last_time),
+        Some(polygon) => Outlook::of_lines(polygon.slow, polygon.fast, service, last_time),
     };
     Segment { first_time: ranges.times[start as usize], last_time, count: reach.end - start, outlook }
 }
@@ -63,14 +63,14 @@ pub fn corners(k: usize, ranges: Ranges, mut out: Lines) -> Result<usize, u8> {
 
 /// The effect of a range behind some ranges, or the number of a refusal.
 #[inline(never)]
-pub fn preview(level: i32, ranges: Ranges, range: (u32, i32, i32), out: EffectMut) -> Result<(), u8> {
-    trial::try_preview(level, ranges, range)?;
+pub fn preview(service: Service, ranges: Ranges, range: (u32, i32, i32), out: EffectMut) -> Result<(), u8> {
+    trial::try_preview(service, ranges, range)?;
     let mut up = [0; trial::MOST_RANGES];
     let mut down = [0; trial::MOST_RANGES];
     let mut chains = Chains { up: &mut up, down: &mut down };
     let (time, low, high) = range;
     let lines = run::last_lines(Ends::of(ranges), &mut chains, ranges.times.len() as u32, Bar::of(time, low, high));
-    let outlook = lines.map_or(Outlook::Open, |(slow, fast)| Outlook::of_lines(slow, fast, level, time));
+    let outlook = lines.map_or(Outlook::Open, |(slow, fast)| Outlook::of_lines(slow, fast, service, time));
     rows::tell(out, outlook);
     Ok(())
 }

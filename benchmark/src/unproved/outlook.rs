@@ -1,6 +1,8 @@
 //! When a line reaches the service level, and the outlook of a segment's two lines.
 
 use super::line::Line;
+use humoraki::FALLING;
+use humoraki::lent::Service;
 
 /// Open: one range. Else the slow and the fast line, and the times at which some and all lines of the fit reach the level.
 #[derive(Clone, Copy)]
@@ -27,14 +29,16 @@ fn reach_time(line: Line, level: i32, from: u32) -> Option<u32> {
 }
 
 impl Outlook {
-    pub fn of_lines(slow: Line, fast: Line, level: i32, last_time: u32) -> Self {
+    /// On a falling trace the slow line is the first at the level, and each line and the level are taken upside down.
+    pub fn of_lines(slow: Line, fast: Line, service: Service, last_time: u32) -> Self {
         let slow = slow.reduced();
         let fast = fast.reduced();
-        Outlook::Lines {
-            slow,
-            fast,
-            some: reach_time(fast, level, last_time),
-            all: reach_time(slow, level, last_time),
-        }
+        let (first, last, level) = if service.direction == FALLING {
+            (slow.negated(), fast.negated(), -service.level)
+        } else {
+            (fast, slow, service.level)
+        };
+        let [some, all] = [first, last].map(|line| reach_time(line, level, last_time));
+        Outlook::Lines { slow, fast, some, all }
     }
 }

@@ -1,7 +1,7 @@
 //! Which number of the refusals turns the lists and slices of a call down.
 
-use humoraki::lent::{Columns, Lines, Ranges};
-use humoraki::{CORNER_ROOM, SEGMENT_ROOM};
+use humoraki::lent::{Columns, Lines, Ranges, Service};
+use humoraki::{CORNER_ROOM, FALLING, SEGMENT_ROOM};
 
 pub const MOST_RANGES: usize = 4096;
 
@@ -9,6 +9,10 @@ const MOST_VALUE: i32 = 268_435_456;
 
 pub fn value_outside(value: i32) -> bool {
     !(-MOST_VALUE..=MOST_VALUE).contains(&value)
+}
+
+fn service_outside(service: Service) -> bool {
+    value_outside(service.level) || FALLING < service.direction
 }
 
 /// One range: the least time of the next, or the number that turns it down.
@@ -61,13 +65,13 @@ macro_rules! try_columns {
 
 humoraki::segment_columns!(try_columns);
 
-pub fn try_segment(level: i32, ranges: Ranges, out: &Columns) -> Result<(), u8> {
-    try_lists(is_short(out), MOST_RANGES, value_outside(level), ranges).map(|_| ())
+pub fn try_segment(service: Service, ranges: Ranges, out: &Columns) -> Result<(), u8> {
+    try_lists(is_short(out), MOST_RANGES, service_outside(service), ranges).map(|_| ())
 }
 
 /// A range more must have a place.
-pub fn try_preview(level: i32, ranges: Ranges, range: (u32, i32, i32)) -> Result<(), u8> {
-    let least = try_lists(false, MOST_RANGES - 1, value_outside(level), ranges)?;
+pub fn try_preview(service: Service, ranges: Ranges, range: (u32, i32, i32)) -> Result<(), u8> {
+    let least = try_lists(false, MOST_RANGES - 1, service_outside(service), ranges)?;
     try_range(least, range).map(|_| ())
 }
 

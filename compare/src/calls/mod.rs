@@ -17,7 +17,8 @@ use crate::file::{bytes, visible};
 use crate::lent::{Use, Watched};
 use crate::panel::{PLACES, Panel};
 use crate::tally::Call;
-use crate::trace::{Lists, Trace};
+use crate::trace::{Lists, Service, Trace};
+use humoraki::lent;
 
 /// The numbers that a call returned and was to return, and everything that was lent to it.
 pub struct Returned<'a> {
@@ -43,15 +44,14 @@ pub struct Told {
 impl Told {
     /// A call on a file, with what can be made out of it.
     pub fn on_file(call: String, file: &[u8]) -> Told {
-        let Trace { address, level, ranges } = visible(file);
-        let bytes = file.len();
-        let call = format!("{call}\n{bytes} bytes, address {address}, level {level}");
+        let Trace { address, service, ranges } = visible(file);
+        let call = format!("{call}\n{} bytes, address {address}, {}", file.len(), service.in_words());
         Told { call, lists: Lists::of(&ranges), file: file.to_vec() }
     }
 
-    /// A call on lists; address and level are for the file only.
-    pub fn on_lists(call: String, lists: &Lists, address: u32, level: i32) -> Told {
-        let file = bytes(&Trace { address, level, ranges: lists.ranges() });
+    /// A call on lists; address and service are for the file only.
+    pub fn on_lists(call: String, lists: &Lists, address: u32, service: Service) -> Told {
+        let file = bytes(&Trace { address, service, ranges: lists.ranges() });
         Told { call, lists: lists.clone(), file }
     }
 
@@ -97,6 +97,11 @@ pub fn unless_short<T>(short: bool, expected: Result<T, u8>) -> Result<T, u8> {
 /// The number that a call returns.
 pub fn number<T>(answer: &Result<T, u8>) -> u8 {
     answer.as_ref().err().copied().unwrap_or(0)
+}
+
+/// A service as the library takes it.
+fn handed(service: Service) -> lent::Service {
+    lent::Service { level: service.level, direction: service.direction }
 }
 
 /// A line's number as the library has it.

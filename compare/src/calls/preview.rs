@@ -2,12 +2,12 @@
 
 use super::lists::LentLists;
 use super::segment::outlook_numbers;
-use super::{Returned, number};
+use super::{Returned, handed, number};
 use crate::answers::Effect;
 use crate::lent::{Lent, Use, Watched};
 use crate::random::Random;
 use crate::tally::Call;
-use crate::trace::{Lists, Range};
+use crate::trace::{Lists, Range, Service};
 use humoraki::lent::{self, EffectMut};
 
 /// The numbers of the slow and the fast line, and the two times.
@@ -33,7 +33,7 @@ impl PreviewCall {
 
     pub fn call(
         &mut self,
-        (level, lists, range): (i32, &Lists, &Range),
+        (service, lists, range): (Service, &Lists, &Range),
         expected: Result<&Effect, u8>,
         random: &mut Random,
     ) -> Returned<'_> {
@@ -41,7 +41,7 @@ impl PreviewCall {
         self.kind.lend(1, 1, random);
         self.lines.iter_mut().for_each(|number| number.lend(1, 1, random));
         self.times.iter_mut().for_each(|time| time.lend(1, 1, random));
-        let given = self.preview(level, range);
+        let given = self.preview(service, range);
         if let Ok(effect) = expected {
             self.expect(effect);
         }
@@ -58,12 +58,12 @@ impl PreviewCall {
         lent
     }
 
-    fn preview(&mut self, level: i32, range: &Range) -> Result<(), u8> {
+    fn preview(&mut self, service: Service, range: &Range) -> Result<(), u8> {
         let [slow_p, slow_q, slow_d, fast_p, fast_q, fast_d] = self.lines.each_mut().map(Lent::entry_mut);
         let [some, all] = self.times.each_mut().map(Lent::entry_mut);
         let kind = self.kind.entry_mut();
         let effect = EffectMut { kind, slow_p, slow_q, slow_d, fast_p, fast_q, fast_d, some, all };
-        lent::preview(level, self.lists.ranges(), range.time, range.low, range.high, effect)
+        lent::preview(handed(service), self.lists.ranges(), range.time, range.low, range.high, effect)
     }
 
     /// The kind is 0 where the range joins, and 1 where it begins a segment.

@@ -7,7 +7,8 @@ use crate::random::Random;
 use crate::room::Room;
 use crate::tally::Call;
 use crate::trace::{Lists, Trace};
-use humoraki::{READ_ROOM, lent};
+use humoraki::READ_ROOM;
+use humoraki::lent::{self, RangesMut, RecordMut};
 
 /// How many slices Read fills.
 pub const PLACES: usize = 3;
@@ -19,6 +20,7 @@ pub struct ReadCall {
     highs: Lent<i32>,
     address: Lent<u32>,
     level: Lent<i32>,
+    direction: Lent<u32>,
     ranges: Lent<usize>,
 }
 
@@ -31,6 +33,7 @@ impl ReadCall {
             highs: Lent::new("highs", Use::Filled),
             address: Lent::new("address", Use::Set),
             level: Lent::new("level", Use::Set),
+            direction: Lent::new("direction", Use::Set),
             ranges: Lent::new("ranges", Use::Set),
         }
     }
@@ -45,15 +48,7 @@ impl ReadCall {
     ) -> Returned<'_> {
         let short = self.lend(file, room, random);
         let expected = unless_short(short, expected);
-        let given = lent::read(
-            self.file.entries(),
-            self.times.entries_mut(),
-            self.lows.entries_mut(),
-            self.highs.entries_mut(),
-            self.address.entry_mut(),
-            self.level.entry_mut(),
-            self.ranges.entry_mut(),
-        );
+        let given = self.read();
         if let Ok(trace) = expected {
             self.expect(trace);
         }
@@ -62,8 +57,8 @@ impl ReadCall {
 
     /// All that is lent to Read.
     pub fn lent(&mut self) -> Vec<&mut dyn Watched> {
-        let ReadCall { file, times, lows, highs, address, level, ranges } = self;
-        vec![file, times, lows, highs, address, level, ranges]
+        let ReadCall { file, times, lows, highs, address, level, direction, ranges } = self;
+        vec![file, times, lows, highs, address, level, direction, ranges]
     }
 
     /// Whether a slice is too short.
@@ -74,8 +69,24 @@ impl ReadCall {
         let short = lend_room(lists, room, READ_ROOM, fresh, random);
         self.address.lend(1, 1, random);
         self.level.lend(1, 1, random);
+        self.direction.lend(1, 1, random);
         self.ranges.lend(1, 1, random);
         short
+    }
+
+    fn read(&mut self) -> Result<(), u8> {
+        let into = RangesMut {
+            times: self.times.entries_mut(),
+            lows: self.lows.entries_mut(),
+            highs: self.highs.entries_mut(),
+        };
+        let record = RecordMut {
+            address: self.address.entry_mut(),
+            level: self.level.entry_mut(),
+            direction: self.direction.entry_mut(),
+            ranges: self.ranges.entry_mut(),
+        };
+        lent::read(self.file.entries(), into, record)
     }
 
     fn expect(&mut self, trace: &Trace) {
@@ -84,7 +95,8 @@ impl ReadCall {
         self.lows.expect(&lists.lows);
         self.highs.expect(&lists.highs);
         self.address.expect(&[trace.address]);
-        self.level.expect(&[trace.level]);
+        self.level.expect(&[trace.service.level]);
+        self.direction.expect(&[trace.service.direction]);
         self.ranges.expect(&[trace.ranges.len()]);
     }
 }

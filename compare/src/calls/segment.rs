@@ -2,14 +2,14 @@
 
 use super::columns::{LentColumns, Row};
 use super::lists::LentLists;
-use super::{Returned, narrow, number, unless_short};
+use super::{Returned, handed, narrow, number, unless_short};
 use crate::lent::{Lent, Use, Watched, lend_room};
 use crate::outlook::Outlook;
 use crate::random::Random;
 use crate::room::Room;
 use crate::segments::Segment;
 use crate::tally::Call;
-use crate::trace::Lists;
+use crate::trace::{Lists, Service};
 use humoraki::{NONE, SEGMENT_ROOM, lent};
 
 pub struct SegmentCall {
@@ -26,7 +26,7 @@ impl SegmentCall {
     /// Calls Segment; `expected` is the answer on slices that are long enough.
     pub fn call(
         &mut self,
-        (level, lists): (i32, &Lists),
+        (service, lists): (Service, &Lists),
         expected: Result<&[Segment], u8>,
         room: &Room,
         random: &mut Random,
@@ -36,7 +36,8 @@ impl SegmentCall {
         let short = lend_room(&mut self.columns.lent(), room, SEGMENT_ROOM, fresh, random);
         self.count.lend(1, 1, random);
         let expected = unless_short(short, expected);
-        let given = lent::segment(level, self.lists.ranges(), self.columns.columns(), self.count.entry_mut());
+        let (columns, count) = (self.columns.columns(), self.count.entry_mut());
+        let given = lent::segment(handed(service), self.lists.ranges(), columns, count);
         if let Ok(segments) = expected {
             self.columns.expect(&segments.iter().map(row).collect::<Vec<_>>());
             self.count.expect(&[segments.len()]);

@@ -1,12 +1,12 @@
 //! Write, compared.
 
 use super::lists::LentLists;
-use super::{Returned, number, unless_short};
+use super::{Returned, handed, number, unless_short};
 use crate::lent::{Lent, Use, Watched, lend_room};
 use crate::random::Random;
 use crate::room::Room;
 use crate::tally::Call;
-use crate::trace::Lists;
+use crate::trace::{Lists, Service};
 use humoraki::{WRITE_ROOM, lent};
 
 /// How many slices Write fills.
@@ -30,7 +30,7 @@ impl WriteCall {
     /// Calls Write; `expected` is the answer on a slice that is long enough.
     pub fn call(
         &mut self,
-        (address, level, lists): (u32, i32, &Lists),
+        (address, service, lists): (u32, Service, &Lists),
         expected: Result<&[u8], u8>,
         room: &Room,
         random: &mut Random,
@@ -40,7 +40,8 @@ impl WriteCall {
         let short = lend_room(&mut [&mut self.file], room, WRITE_ROOM, fresh, random);
         self.count.lend(1, 1, random);
         let expected = unless_short(short, expected);
-        let given = lent::write(address, level, self.lists.ranges(), self.file.entries_mut(), self.count.entry_mut());
+        let (file, count) = (self.file.entries_mut(), self.count.entry_mut());
+        let given = lent::write(address, handed(service), self.lists.ranges(), file, count);
         if let Ok(bytes) = expected {
             self.file.expect(bytes);
             self.count.expect(&[bytes.len()]);

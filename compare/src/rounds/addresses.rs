@@ -5,7 +5,7 @@ use crate::desk::Desk;
 use crate::difference::Outcome;
 use crate::room::Room;
 use crate::segments::BY_TRYING;
-use crate::trace::Lists;
+use crate::trace::{Lists, Service};
 use crate::traces::addresses::{ENDS, outside};
 
 /// The field of level 20.
@@ -68,7 +68,7 @@ fn body(desk: &mut Desk, body: &[u8]) -> Outcome {
     let names = if expected.is_ok() { TAKEN } else { REFUSED };
     desk.tally.add(names[body.len() - 1], 1);
     match expected {
-        Ok(trace) => desk.write((trace.address, trace.level, &Lists::default()), Ok(&file), &Room::enough()),
+        Ok(trace) => desk.write((trace.address, trace.service, &Lists::default()), Ok(&file), &Room::enough()),
         Err(_) => Ok(()),
     }
 }
@@ -96,8 +96,8 @@ fn written(desk: &mut Desk) -> Outcome {
     let far: Vec<u32> = (0..OUTSIDE).map(|_| outside(&mut desk.random)).collect();
     for address in near.chain([65_543, u32::MAX]).chain(far) {
         let lists = Lists::default();
-        let expected = answers::write(address, 20, &lists);
-        desk.write((address, 20, &lists), borrowed(&expected), &Room::enough())?;
+        let expected = answers::write(address, Service::rising(20), &lists);
+        desk.write((address, Service::rising(20), &lists), borrowed(&expected), &Room::enough())?;
         desk.tally.add(WRITTEN[expected.is_err() as usize], 1);
     }
     Ok(())

@@ -3,12 +3,13 @@
 use crate::damage::{address_widened, outside};
 use crate::desk::Desk;
 use crate::difference::Outcome;
-use crate::file::{bytes, field_start};
+use crate::file::{bytes, field_start, fields_of_header};
 use crate::random::Random;
 use crate::segments::{BY_CLIPPING, BY_TRYING, Fitter};
 use crate::trace::{MOST_RANGES, Range, Trace};
 use crate::traces::addresses::address;
 use crate::traces::long::full;
+use crate::traces::services::{no_direction, small_service};
 use crate::traces::small::small_trace;
 
 #[derive(Clone, Copy, PartialEq)]
@@ -47,22 +48,26 @@ pub fn compare(desk: &mut Desk) -> Outcome {
         for _ in 0..ROUNDS {
             let mut trace = small_trace(&mut desk.random);
             trace.ranges.truncate(3);
-            for field in 0..trace.ranges.len() + 2 {
+            for field in 0..fields_of_header(&bytes(&trace)) + trace.ranges.len() {
                 one(desk, &trace, (field, &faults), BY_TRYING)?;
             }
         }
-        let too_many = Trace { address: address(&mut desk.random), level: 0, ranges: ranges.clone() };
-        one(desk, &too_many, (MOST_RANGES + 2, &faults), BY_CLIPPING)?;
+        let (address, service) = (address(&mut desk.random), small_service(&mut desk.random));
+        let too_many = Trace { address, service, ranges: ranges.clone() };
+        let last = fields_of_header(&bytes(&too_many)) + MOST_RANGES;
+        one(desk, &too_many, (last, &faults), BY_CLIPPING)?;
     }
     Ok(())
 }
 
-/// A trace's file with the faults in one field: 0 is the address, 1 the level, then the ranges.
+/// A trace's file with the faults in one field: 0 is the address, 1 the level, then a direction if it falls, then the
+/// ranges.
 fn one(desk: &mut Desk, trace: &Trace, (field, faults): (usize, &[Fault]), fitter: Fitter) -> Outcome {
     let random = &mut desk.random;
     let mut trace = trace.clone();
+    let of_header = fields_of_header(&bytes(&trace));
     for fault in faults {
-        spoil_value(&mut trace, field, *fault, random);
+        spoil_value(&mut trace, (field, of_header), *fault, random);
     }
     let mut file = bytes(&trace);
     if field == 0 && faults.contains(&Fault::High) {
@@ -77,14 +82,15 @@ fn one(desk: &mut Desk, trace: &Trace, (field, faults): (usize, &[Fault]), fitte
     desk.file(&file, fitter)
 }
 
-/// A low that is wrong stands for an address of 0 and for a wrong level too, a high for an address in two bytes that is
-/// below 256.
-fn spoil_value(trace: &mut Trace, field: usize, fault: Fault, random: &mut Random) {
+/// A low that is wrong stands for an address of 0 and for a wrong level or direction too, a high for an address in two
+/// bytes that is below 256.
+fn spoil_value(trace: &mut Trace, (field, of_header): (usize, usize), fault: Fault, random: &mut Random) {
     match (field, fault) {
         (0, Fault::Low) => trace.address = 0,
-        (1, Fault::Low | Fault::High) => trace.level = outside(random),
-        (0 | 1, _) => {}
-        _ => spoil_range(&mut trace.ranges, field - 2, fault, random),
+        (1, Fault::Low | Fault::High) => trace.service.level = outside(random),
+        (2, Fault::Low | Fault::High) if of_header == 3 => trace.service.direction = no_direction(random),
+        _ if field < of_header => {}
+        _ => spoil_range(&mut trace.ranges, field - of_header, fault, random),
     }
 }
 
@@ -105,7 +111,7 @@ fn spoil_bytes(file: &mut Vec<u8>, start: usize, end: usize, fault: Fault, rando
     let has = |place: usize| file.len() > place;
     match fault {
         Fault::EndsInHeader => file.truncate(start + random.below(3)),
-        Fault::Tag if has(start) => file[start] = random.pick(&[0, 4, 255, file[start] + 1]),
+        Fault::Tag if has(start) => file[start] = random.pick(&[0, 3, 4, 5, 255, file[start] + 1]),
         Fault::Length if has(2) && start == 0 && random.one_in(2) => {
             file[1..3].copy_from_slice(&random.pick(&ADDRESS_LENGTHS).to_be_bytes());
         }

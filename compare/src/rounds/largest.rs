@@ -1,5 +1,5 @@
 //! The trial cases on size: 4,096 ranges are accepted and 4,097 refused, as a file and as lists, and what comes after
-//! the largest file, or after 65,536 bytes, does not matter.
+//! the largest file and the header of one field more, or after 65,536 bytes, does not matter.
 
 use crate::answers::{self, borrowed};
 use crate::desk::Desk;
@@ -7,18 +7,23 @@ use crate::difference::Outcome;
 use crate::file;
 use crate::room::Room;
 use crate::segments::BY_CLIPPING;
-use crate::trace::{LARGEST_ADDRESS, LARGEST_VALUE, LEAST_VALUE, Lists, MOST_RANGES, Range, Trace};
+use crate::trace::{FALLING, LARGEST_ADDRESS, LARGEST_VALUE, LEAST_VALUE, Lists, MOST_RANGES, Range, Service, Trace};
 use crate::traces::long::full;
 use humoraki::WRITE_ROOM;
 
 /// What the report program reads of standard input at most.
 const INPUT: usize = 65_536;
 
-/// The largest address of each length.
-const ADDRESSES: [u32; 2] = [255, LARGEST_ADDRESS];
+/// Each length of a header: the largest address of one byte and of two, on a rising trace and on a falling one.
+type Head = (u32, Service);
+
+fn heads() -> [Head; 4] {
+    let [rising, falling] = [Service::rising(0), Service::falling(0)];
+    [(255, rising), (LARGEST_ADDRESS, rising), (255, falling), (LARGEST_ADDRESS, falling)]
+}
 
 /// The scope's least length for Write, and so the length of the largest file.
-const LARGEST: usize = 61_452;
+const LARGEST: usize = 61_456;
 const _: () = assert!(WRITE_ROOM == LARGEST);
 
 /// How many other ends are tried for the largest file.
@@ -27,28 +32,28 @@ const CUTS: usize = 300;
 pub fn compare(desk: &mut Desk) -> Outcome {
     for count in [MOST_RANGES - 1, MOST_RANGES, MOST_RANGES + 1, MOST_RANGES + 2, 2 * MOST_RANGES] {
         as_lists(desk, count)?;
-        for address in ADDRESSES {
-            let trace = Trace { address, level: 0, ranges: full(count) };
+        for (address, service) in heads() {
+            let trace = Trace { address, service, ranges: full(count) };
             desk.file(&file::bytes(&trace), BY_CLIPPING)?;
             desk.tally.add("traces of about 4,096 ranges", 1);
         }
     }
-    for address in ADDRESSES {
-        around_the_largest_file(desk, address)?;
+    for head in heads() {
+        around_the_largest_file(desk, head)?;
     }
-    ADDRESSES.into_iter().try_for_each(|address| long_inputs(desk, address))
+    heads().into_iter().try_for_each(|head| long_inputs(desk, head))
 }
 
 fn as_lists(desk: &mut Desk, count: usize) -> Outcome {
     let lists = Lists::of(&full(count));
-    for address in ADDRESSES {
-        let expected = answers::write(address, 0, &lists);
+    for (address, service) in heads() {
+        let expected = answers::write(address, service, &lists);
         for room in [WRITE_ROOM, WRITE_ROOM - 1] {
-            desk.write((address, 0, &lists), borrowed(&expected), &Room::with_length(0, room))?;
+            desk.write((address, service, &lists), borrowed(&expected), &Room::with_length(0, room))?;
         }
+        let expected = answers::segment(service, &lists, BY_CLIPPING);
+        desk.segment(service, &lists, borrowed(&expected), &Room::enough())?;
     }
-    let expected = answers::segment(0, &lists, BY_CLIPPING);
-    desk.segment(0, &lists, borrowed(&expected), &Room::enough())?;
     for k in [0, 1, 2, count, count + 1] {
         let expected = answers::corners(k, &lists, BY_CLIPPING);
         desk.corners(k, &lists, borrowed(&expected), &Room::enough())?;
@@ -56,28 +61,34 @@ fn as_lists(desk: &mut Desk, count: usize) -> Outcome {
     previews(desk, &lists)
 }
 
-/// A good range behind all others, and a level and a range that are wrong.
+/// A good range behind all others, and a level, a direction and a range that are wrong.
 fn previews(desk: &mut Desk, lists: &Lists) -> Outcome {
     let time = lists.times.len() as u32;
     let good = Range { time, low: LEAST_VALUE, high: LARGEST_VALUE };
-    for (level, range) in [(0, good), (i32::MAX, good), (0, Range { low: 1, high: 0, ..good })] {
-        let expected = answers::preview(level, lists, &range, BY_CLIPPING);
-        desk.preview((level, lists, &range), borrowed(&expected))?;
+    let wrong = Range { low: 1, high: 0, ..good };
+    let [rising, falling] = [Service::rising(0), Service::falling(0)];
+    let outside = [Service::rising(i32::MAX), Service { direction: 2, ..rising }];
+    for (service, range) in
+        [(rising, good), (falling, good), (outside[0], good), (outside[1], good), (falling, wrong)]
+    {
+        let expected = answers::preview(service, lists, &range, BY_CLIPPING);
+        desk.preview((service, lists, &range), borrowed(&expected))?;
     }
     Ok(())
 }
 
 /// The file of a trace with more than 4,096 ranges, and how many bytes the first 4,096 and what is before them have.
-fn too_long(address: u32, ranges: usize) -> (Vec<u8>, usize) {
-    let file = file::bytes(&Trace { address, level: 0, ranges: full(ranges) });
-    let largest = file::field_start(&file, MOST_RANGES + 2);
-    assert!(address != LARGEST_ADDRESS || largest == LARGEST, "the largest file has another length");
+fn too_long((address, service): Head, ranges: usize) -> (Vec<u8>, usize) {
+    let file = file::bytes(&Trace { address, service, ranges: full(ranges) });
+    let largest = file::field_start(&file, file::fields_of_header(&file) + MOST_RANGES);
+    let is_largest = (address, service.direction) == (LARGEST_ADDRESS, FALLING);
+    assert!(is_largest == (largest == LARGEST) && largest <= LARGEST, "the largest file has another length");
     (file, largest)
 }
 
 /// Every end near the end of the largest file, and some others; with wrong bytes behind it.
-fn around_the_largest_file(desk: &mut Desk, address: u32) -> Outcome {
-    let (file, largest) = too_long(address, MOST_RANGES + 3);
+fn around_the_largest_file(desk: &mut Desk, head: Head) -> Outcome {
+    let (file, largest) = too_long(head, MOST_RANGES + 3);
     let mut ends: Vec<usize> = (largest - 32..=file.len()).collect();
     ends.extend((0..CUTS).map(|_| desk.random.below(largest)));
     for end in ends {
@@ -96,8 +107,8 @@ fn around_the_largest_file(desk: &mut Desk, address: u32) -> Outcome {
 }
 
 /// Inputs of 65,536 bytes and more: the report of the first 65,536 is the report of all.
-fn long_inputs(desk: &mut Desk, address: u32) -> Outcome {
-    let (good, largest) = too_long(address, 3 * MOST_RANGES);
+fn long_inputs(desk: &mut Desk, head: Head) -> Outcome {
+    let (good, largest) = too_long(head, 3 * MOST_RANGES);
     for length in [INPUT - 1, INPUT, INPUT + 1, 2 * INPUT] {
         let random = (0..length).map(|_| desk.random.next() as u8).collect();
         let mut junk_behind = good.clone();

@@ -1,4 +1,5 @@
-//! Every set of faults in what Write, Segment and Corners are handed, so that the order of the refusals is tried.
+//! Every set of faults in what Write, Segment and Corners are handed, so that the order of the refusals is tried; and in
+//! the mirror.
 
 use crate::answers::{self, borrowed};
 use crate::calls::{columns, corners, write};
@@ -7,10 +8,12 @@ use crate::desk::Desk;
 use crate::difference::Outcome;
 use crate::random::Random;
 use crate::room::Room;
+use crate::rounds::mirrors;
 use crate::segments::BY_TRYING;
-use crate::trace::{Lists, MOST_RANGES, Range};
+use crate::trace::{Lists, MOST_RANGES, Range, Service};
 use crate::traces::addresses;
 use crate::traces::long::full;
+use crate::traces::services::{no_direction, small_service};
 use crate::traces::small::small_ranges;
 use humoraki::{CORNER_ROOM, SEGMENT_ROOM, WRITE_ROOM};
 
@@ -34,11 +37,12 @@ enum Fault {
     ShortSlice,
     Address,
     Level,
+    Direction,
     Prefix,
 }
 
 /// Faults in ranges come before the lengths are changed, so that there is a range to spoil.
-const FAULTS: [Fault; 10] = [
+const FAULTS: [Fault; 11] = [
     Fault::TooMany,
     Fault::InRange(RangeFault::Low),
     Fault::InRange(RangeFault::High),
@@ -48,6 +52,7 @@ const FAULTS: [Fault; 10] = [
     Fault::ShortSlice,
     Fault::Address,
     Fault::Level,
+    Fault::Direction,
     Fault::Prefix,
 ];
 
@@ -57,7 +62,7 @@ const ROUNDS: usize = 10;
 /// What is handed to the three calls.
 struct Handed {
     address: u32,
-    level: i32,
+    service: Service,
     k: usize,
     lists: Lists,
     short: bool,
@@ -82,7 +87,7 @@ fn sound(many: bool, random: &mut Random) -> Handed {
     let ranges = if many { full(MOST_RANGES + 1 + random.below(40)) } else { some_ranges(random) };
     Handed {
         address: addresses::address(random),
-        level: random.between(-50, 50) as i32,
+        service: small_service(random),
         k: 1 + random.below(ranges.len()),
         lists: Lists::of(&ranges),
         short: false,
@@ -108,7 +113,8 @@ fn spoil(handed: &mut Handed, fault: Fault, random: &mut Random) {
         Fault::ShortSlice => handed.short = true,
         Fault::LengthsDiffer => change_length(lists, random),
         Fault::Address => handed.address = addresses::outside(random),
-        Fault::Level => handed.level = outside(random),
+        Fault::Level => handed.service.level = outside(random),
+        Fault::Direction => handed.service.direction = no_direction(random),
         Fault::InRange(fault) => spoil_range(lists, place, fault, random),
         Fault::Prefix => {
             let count = lists.times.len();
@@ -142,19 +148,21 @@ pub fn change_length(lists: &mut Lists, random: &mut Random) {
 }
 
 fn three_calls(desk: &mut Desk, handed: &Handed) -> Outcome {
-    let Handed { address, level, k, lists, short } = handed;
+    let Handed { address, service, k, lists, short } = handed;
     desk.tally.add("sets of faults in lists", 1);
     let room = |places, least, random: &mut Random| match short {
         true => Room::too_short(places, least, random),
         false => Room::enough(),
     };
     let for_write = room(write::PLACES, WRITE_ROOM, &mut desk.random);
-    let expected = answers::write(*address, *level, lists);
-    desk.write((*address, *level, lists), borrowed(&expected), &for_write)?;
+    let expected = answers::write(*address, *service, lists);
+    desk.write((*address, *service, lists), borrowed(&expected), &for_write)?;
     let for_segment = room(columns::PLACES, SEGMENT_ROOM, &mut desk.random);
-    let expected = answers::segment(*level, lists, BY_TRYING);
-    desk.segment(*level, lists, borrowed(&expected), &for_segment)?;
+    let expected = answers::segment(*service, lists, BY_TRYING);
+    desk.segment(*service, lists, borrowed(&expected), &for_segment)?;
+    mirrors::segment(desk, *service, lists, borrowed(&expected))?;
     let for_corners = room(corners::PLACES, CORNER_ROOM, &mut desk.random);
     let expected = answers::corners(*k, lists, BY_TRYING);
-    desk.corners(*k, lists, borrowed(&expected), &for_corners)
+    desk.corners(*k, lists, borrowed(&expected), &for_corners)?;
+    mirrors::corners(desk, *k, lists, borrowed(&expected))
 }

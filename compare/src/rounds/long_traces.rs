@@ -1,5 +1,5 @@
 //! Long traces against the clipped polygon: every call, with Corners for every k, and Preview for every range, or for
-//! many.
+//! many; and in the mirror.
 
 use crate::answers::Effect;
 use crate::desk::Desk;
@@ -8,11 +8,12 @@ use crate::file;
 use crate::meaning;
 use crate::report;
 use crate::room::Room;
+use crate::rounds::mirrors;
 use crate::segments::{BY_CLIPPING, Segment, Stage, stages};
 use crate::trace::{Lists, MOST_RANGES, Range, Trace};
 use crate::traces::addresses::address;
-use crate::traces::levels;
 use crate::traces::long::SHAPES;
+use crate::traces::services::service;
 use std::slice;
 
 /// Traces of so many ranges are tried by both fitters.
@@ -24,8 +25,8 @@ const EVERY_K: usize = 300;
 /// For longer ones, about so many k are compared.
 const SOME_K: usize = 40;
 
-/// How many levels are tried on each trace.
-const LEVELS: usize = 4;
+/// How many levels, each in some direction, are tried on each trace.
+const SERVICES: usize = 6;
 
 pub fn compare(desk: &mut Desk) -> Outcome {
     for formula in SHAPES {
@@ -36,8 +37,8 @@ pub fn compare(desk: &mut Desk) -> Outcome {
                 meaning::check_fitters(&ranges)?;
             }
             let last_stages = every_stage(desk, &ranges)?;
-            for _ in 0..LEVELS {
-                at_some_level(desk, &ranges, &last_stages)?;
+            for _ in 0..SERVICES {
+                for_some_service(desk, &ranges, &last_stages)?;
             }
         }
     }
@@ -53,6 +54,7 @@ fn every_stage(desk: &mut Desk, ranges: &[Range]) -> Result<Vec<Stage>, Box<Diff
         let edge = stage.end < 4 || stage.end + 2 > count;
         if edge || count <= EVERY_K || desk.random.one_in(count / SOME_K) {
             desk.corners(stage.end, &lists, Ok(&stage.corners), &Room::enough())?;
+            mirrors::corners(desk, stage.end, &lists, Ok(&stage.corners))?;
             desk.tally.add("long traces: corners", stage.corners.len());
             desk.tally.raise("long traces: most corners of one fit", stage.corners.len());
             last_range(desk, &stage, ranges)?;
@@ -66,24 +68,26 @@ fn every_stage(desk: &mut Desk, ranges: &[Range]) -> Result<Vec<Stage>, Box<Diff
 
 /// Compares Preview of the last range of a stage behind those before it.
 fn last_range(desk: &mut Desk, stage: &Stage, ranges: &[Range]) -> Outcome {
-    let level = levels::level(ranges, slice::from_ref(stage), &mut desk.random);
+    let service = service(ranges, slice::from_ref(stage), &mut desk.random);
     let place = stage.end - 1;
     let lists = Lists::of(&ranges[..place]);
-    let effect = Effect::at(stage, ranges, level);
+    let effect = Effect::at(stage, ranges, service);
     desk.tally.add("long traces: previews", 1);
     desk.tally.raise("long traces: most ranges before the one previewed", place);
-    desk.preview((level, &lists, &ranges[place]), Ok(&effect))
+    desk.preview((service, &lists, &ranges[place]), Ok(&effect))?;
+    mirrors::preview(desk, (service, &lists, &ranges[place]), Ok(&effect))
 }
 
-fn at_some_level(desk: &mut Desk, ranges: &[Range], last_stages: &[Stage]) -> Outcome {
-    let level = levels::level(ranges, last_stages, &mut desk.random);
-    let segments: Vec<Segment> = last_stages.iter().map(|stage| stage.segment(ranges, level)).collect();
-    let trace = Trace { address: address(&mut desk.random), level, ranges: ranges.to_vec() };
+fn for_some_service(desk: &mut Desk, ranges: &[Range], last_stages: &[Stage]) -> Outcome {
+    let service = service(ranges, last_stages, &mut desk.random);
+    let segments: Vec<Segment> = last_stages.iter().map(|stage| stage.segment(ranges, service)).collect();
+    let trace = Trace { address: address(&mut desk.random), service, ranges: ranges.to_vec() };
     let lists = Lists::of(ranges);
     let file = file::bytes(&trace);
     let text = report::accepted(&trace, &segments);
-    desk.segment(level, &lists, Ok(&segments), &Room::enough())?;
+    desk.segment(service, &lists, Ok(&segments), &Room::enough())?;
+    mirrors::segment(desk, service, &lists, Ok(&segments))?;
     desk.read(&file, Ok(&trace), &Room::enough())?;
-    desk.write((trace.address, level, &lists), Ok(&file), &Room::enough())?;
+    desk.write((trace.address, service, &lists), Ok(&file), &Room::enough())?;
     desk.report(&file, &text, &Room::enough())
 }

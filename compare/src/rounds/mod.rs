@@ -2,10 +2,12 @@
 
 pub mod addresses;
 pub mod damaged_files;
+pub mod directions;
 pub mod field_faults;
 pub mod largest;
 pub mod list_faults;
 pub mod long_traces;
+pub mod mirrors;
 pub mod panel_cases;
 pub mod panel_courses;
 pub mod panel_faults;

@@ -13,6 +13,7 @@ use crate::panels::spoils::SPOILS;
 use crate::random::Random;
 use crate::room::Room;
 use crate::trace::{LARGEST_VALUE, LAST_TIME, LEAST_VALUE, Range};
+use crate::traces::services::small_service;
 
 /// How many heads there are, after how many adds the panel is filled up, and whether most of these are for one head.
 const LONG: [(usize, usize, bool); 5] =
@@ -134,9 +135,9 @@ impl Walk {
             return self.disagreement("the panel does not hold what was accepted");
         }
         for head in self.course.heads() {
-            let level = desk.random.between(-50, 50) as i32;
+            let service = small_service(&mut desk.random);
             let own: Vec<Range> = self.course.own(*head).copied().collect();
-            desk.head_segments(&self.panel, *head, &own, level)?;
+            desk.head_segments(&self.panel, *head, &own, service)?;
             desk.tally.add("panels: heads segmented", 1);
         }
         Ok(())

@@ -1,5 +1,5 @@
 //! Every set of faults in what Preview is handed, in the lists and in the range that is not in them, on no ranges, on a
-//! few, on full lists and on longer ones, so that the order of the refusals is tried.
+//! few, on full lists and on longer ones, so that the order of the refusals is tried, in the mirror too.
 
 use super::list_faults::{RANGE_FAULTS, change_length, some_ranges, spoil_range};
 use crate::answers::{self, borrowed};
@@ -7,16 +7,19 @@ use crate::damage::outside;
 use crate::desk::Desk;
 use crate::difference::Outcome;
 use crate::random::Random;
+use crate::rounds::mirrors;
 use crate::segments::BY_TRYING;
-use crate::trace::{Lists, MOST_RANGES, Range};
+use crate::trace::{Lists, MOST_RANGES, Range, Service};
 use crate::traces::long::full;
+use crate::traces::services::{no_direction, small_service};
 
-/// The bits of a set: the faults of some range in the lists, those of the new range, and two more.
+/// The bits of a set: the faults of some range in the lists, those of the new range, and three more.
 const EARLIER: usize = 0;
 const NEW: usize = EARLIER + RANGE_FAULTS.len();
 const LENGTHS_DIFFER: usize = NEW + RANGE_FAULTS.len();
 const LEVEL: usize = LENGTHS_DIFFER + 1;
-const SETS: usize = 1 << (LEVEL + 1);
+const DIRECTION: usize = LEVEL + 1;
+const SETS: usize = 1 << (DIRECTION + 1);
 
 #[derive(Clone, Copy)]
 enum Size {
@@ -58,7 +61,7 @@ const SEEN: [(u8, &str); 14] = [
 
 /// What is handed to Preview.
 struct Handed {
-    level: i32,
+    service: Service,
     lists: Lists,
     range: Range,
 }
@@ -100,8 +103,14 @@ fn faulty(size: Size, set: usize, random: &mut Random) -> Handed {
     if has(LENGTHS_DIFFER) {
         change_length(&mut lists, random);
     }
-    let level = if has(LEVEL) { outside(random) } else { random.between(-50, 50) as i32 };
-    Handed { level, lists, range: ranges[new] }
+    let mut service = small_service(random);
+    if has(LEVEL) {
+        service.level = outside(random);
+    }
+    if has(DIRECTION) {
+        service.direction = no_direction(random);
+    }
+    Handed { service, lists, range: ranges[new] }
 }
 
 /// The ranges of the lists, and one more.
@@ -115,17 +124,18 @@ fn sound(size: Size, random: &mut Random) -> Vec<Range> {
 }
 
 fn one(desk: &mut Desk, handed: &Handed, size: &str) -> Outcome {
-    let Handed { level, lists, range } = handed;
-    let expected = answers::preview(*level, lists, range, BY_TRYING);
+    let Handed { service, lists, range } = handed;
+    let expected = answers::preview(*service, lists, range, BY_TRYING);
     desk.tally.add("sets of faults in a preview", 1);
     if let Err(number) = expected {
         let part = match number {
             7 | 10 => size,
             _ if lists.times.is_empty() => size,
-            _ if answers::segment(*level, lists, BY_TRYING).is_err() => BEFORE,
+            _ if answers::segment(*service, lists, BY_TRYING).is_err() => BEFORE,
             _ => ITSELF,
         };
         desk.tally.add(&count_name(number, part), 1);
     }
-    desk.preview((*level, lists, range), borrowed(&expected))
+    desk.preview((*service, lists, range), borrowed(&expected))?;
+    mirrors::preview(desk, (*service, lists, range), borrowed(&expected))
 }

@@ -1,13 +1,14 @@
 //! Previews on small traces: each range behind those before it, one that does not come after them, and ranges at the
-//! ends of all spans.
+//! ends of all spans; and each of them in the mirror.
 
 use crate::answers::{self, Effect, borrowed};
 use crate::desk::Desk;
 use crate::difference::{Difference, Outcome};
 use crate::outlook::Outlook;
 use crate::random::Random;
+use crate::rounds::mirrors;
 use crate::segments::{BY_TRYING, Segment};
-use crate::trace::{LARGEST_VALUE, LAST_TIME, LEAST_VALUE, Lists, Range, Trace};
+use crate::trace::{LARGEST_VALUE, LAST_TIME, LEAST_VALUE, Lists, Range, Service, Trace};
 
 /// What is counted of the ranges at the last time of all: those that join, begin, and do not come after the others.
 const LAST: &str = "previews at the last time of all";
@@ -24,19 +25,25 @@ pub fn compare(desk: &mut Desk, trace: &Trace, segments: &[Segment]) -> Outcome 
     let mut effects = Vec::new();
     for (place, range) in trace.ranges.iter().enumerate() {
         let lists = Lists::of(&trace.ranges[..place]);
-        let effect = preview(desk, trace.level, &lists, range)?;
+        let effect = preview(desk, trace.service, &lists, range)?;
         effects.extend(effect);
         let again = Range { time: no_later(range.time, &mut desk.random), ..*range };
-        preview(desk, trace.level, &lists.with(range), &again)?;
+        preview(desk, trace.service, &lists.with(range), &again)?;
     }
     foretold(trace, &effects, segments)?;
     at_the_ends(desk, trace)
 }
 
 /// Preview, with the effect if there is one.
-fn preview(desk: &mut Desk, level: i32, lists: &Lists, range: &Range) -> Result<Option<Effect>, Box<Difference>> {
-    let expected = answers::preview(level, lists, range, BY_TRYING);
-    desk.preview((level, lists, range), borrowed(&expected))?;
+fn preview(
+    desk: &mut Desk,
+    service: Service,
+    lists: &Lists,
+    range: &Range,
+) -> Result<Option<Effect>, Box<Difference>> {
+    let expected = answers::preview(service, lists, range, BY_TRYING);
+    desk.preview((service, lists, range), borrowed(&expected))?;
+    mirrors::preview(desk, (service, lists, range), borrowed(&expected))?;
     Ok(expected.ok())
 }
 
@@ -58,7 +65,7 @@ fn foretold(trace: &Trace, effects: &[Effect], segments: &[Segment]) -> Outcome 
         return Ok(());
     }
     Err(Box::new(Difference {
-        call: format!("the brute force itself, previews at level {}", trace.level),
+        call: format!("the brute force itself, previews, {}", trace.service.in_words()),
         ranges: Lists::of(&trace.ranges).in_words(),
         expected: format!("{segments:?}"),
         given: format!("{effects:?}"),
@@ -70,7 +77,7 @@ fn foretold(trace: &Trace, effects: &[Effect], segments: &[Segment]) -> Outcome 
 fn at_the_ends(desk: &mut Desk, trace: &Trace) -> Outcome {
     let lists = Lists::of(&trace.ranges);
     for (low, high) in [(LEAST_VALUE, LEAST_VALUE), (LARGEST_VALUE, LARGEST_VALUE), (LEAST_VALUE, LARGEST_VALUE)] {
-        let effect = preview(desk, trace.level, &lists, &Range { time: LAST_TIME, low, high })?;
+        let effect = preview(desk, trace.service, &lists, &Range { time: LAST_TIME, low, high })?;
         let name = AT_THE_END[effect.map_or(2, |effect| effect.begins as usize)];
         desk.tally.add(&format!("{LAST}: {name}"), 1);
     }

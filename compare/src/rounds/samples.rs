@@ -7,12 +7,21 @@ use crate::difference::{Difference, Outcome};
 use crate::file;
 use crate::outlook::Outlook;
 use crate::room::Room;
-use crate::segments::BY_TRYING;
-use crate::trace::{Lists, Range, Trace};
+use crate::segments::{BY_TRYING, Segment};
+use crate::trace::{Lists, Range, Service, Trace};
 
 type Numbers = [i128; 3];
 
 pub const SAMPLE: [(u32, i32, i32); 5] = [(10, 0, 4), (20, 4, 8), (30, 10, 14), (40, 9, 11), (50, 9, 12)];
+
+/// A beam head: 40 − u for each value u of the sample.
+pub const BEAM: [(u32, i32, i32); 5] = [(10, 36, 40), (20, 32, 36), (30, 26, 30), (40, 29, 31), (50, 28, 31)];
+
+const BEAM_REPORT: &str = "\
+detector 7 level 20 ranges 5 segments 2
+segment 1 from 10 to 30 ranges 3 slow -7 470 10 fast -3 390 10 some 39 all 64
+segment 2 from 40 to 50 ranges 2 slow -3 430 10 fast 1 105 5 some 77 all none
+";
 
 const SAMPLE_REPORT: &str = "\
 detector 7 level 20 ranges 5 segments 2
@@ -30,16 +39,54 @@ pub fn compare(desk: &mut Desk) -> Outcome {
     corners(desk, 0, &sample, Err(9))?;
     corners(desk, 3, &ranges(&[(0, 0, 0), (1, 1, 1), (2, 2, 2)]), Ok(&[[1, 0, 1]]))?;
     corners(desk, 3, &ranges(&[(0, 0, 0), (1, 1, 1), (2, 3, 3)]), Ok(&[]))?;
-    let trace = Trace { address: 7, level: 20, ranges: sample };
+    let at_20 = Service::rising(20);
+    let trace = Trace { address: 7, service: at_20, ranges: sample };
     report(desk, &file::bytes(&trace), SAMPLE_REPORT)?;
-    segments(desk, &[(0, 0, 0), (1, 1, 1), (2, 3, 3)], Ok((2, true)))?;
-    segments(desk, &[], Ok((0, false)))?;
-    segments(desk, &[(5, 0, 1), (5, 0, 1)], Err(6))?;
-    segments(desk, &[(5, 1, 0)], Err(5))?;
-    segments(desk, &[(5, 0, 268_435_456)], Ok((1, true)))?;
-    segments(desk, &[(5, 0, 268_435_457)], Err(4))?;
+    segments(desk, at_20, &[(0, 0, 0), (1, 1, 1), (2, 3, 3)], Ok((2, true)))?;
+    segments(desk, at_20, &[], Ok((0, false)))?;
+    segments(desk, at_20, &[(5, 0, 1), (5, 0, 1)], Err(6))?;
+    segments(desk, at_20, &[(5, 1, 0)], Err(5))?;
+    segments(desk, at_20, &[(5, 0, 268_435_456)], Ok((1, true)))?;
+    segments(desk, at_20, &[(5, 0, 268_435_457)], Err(4))?;
     report(desk, &[], "refused 1\n")?;
-    addresses(desk)
+    addresses(desk)?;
+    falling(desk)?;
+    directions(desk)
+}
+
+/// Falling traces, with *some* and *all* of each segment.
+fn falling(desk: &mut Desk) -> Outcome {
+    let trace = Trace { address: 7, service: Service::falling(20), ranges: ranges(&BEAM) };
+    let file = file::bytes(&trace);
+    agree("90".to_string(), file.len().to_string(), &Lists::of(&trace.ranges))?;
+    report(desk, &file, BEAM_REPORT)?;
+    times(desk, Service::falling(20), &BEAM, &[(Some(39), Some(64)), (Some(77), None)])?;
+    times(desk, Service::falling(0), &SAMPLE, &[(None, None), (Some(95), None)])?;
+    times(desk, Service::falling(10), &SAMPLE, &[(Some(30), None), (Some(50), None)])?;
+    segments(desk, Service { level: 20, direction: 2 }, &[(0, 1, 0)], Err(4))?;
+    segments(desk, Service { level: 20, direction: 256 }, &[], Err(4))?;
+    segments(desk, Service { level: 20, direction: 2 }, &[(0, 0, 4); 4097], Err(7))
+}
+
+/// Files of address 7 and level 20 with these bytes behind them.
+fn directions(desk: &mut Desk) -> Outcome {
+    let range = [3, 0, 12, 0, 0, 0, 10, 0, 0, 0, 36, 0, 0, 0, 40];
+    let header = [1, 0, 1, 7, 2, 0, 4, 0, 0, 0, 20];
+    let fields: [(&[u8], &str); 9] = [
+        (&[4, 0, 1, 1], "detector 7 level 20 ranges 0 segments 0\n"),
+        (&[4, 0, 1, 0], "refused 4\n"),
+        (&[4, 0, 1, 2], "refused 4\n"),
+        (&[4, 0, 1, 255], "refused 4\n"),
+        (&[4, 0, 1], "refused 1\n"),
+        (&[4, 0, 0], "refused 3\n"),
+        (&[4, 0, 2, 0, 1], "refused 3\n"),
+        (&[4, 0, 1, 1, 4, 0, 1, 1], "refused 2\n"),
+        (&[&range[..], &[4, 0, 1, 1]].concat(), "refused 2\n"),
+    ];
+    for (field, text) in fields {
+        report(desk, &[&header, field].concat(), text)?;
+    }
+    report(desk, &[&header[..4], &[4, 0, 1, 1], &header[4..]].concat(), "refused 2\n")
 }
 
 /// Files without ranges: the address field, with the level 20 behind it.
@@ -83,15 +130,39 @@ fn corners(desk: &mut Desk, k: usize, ranges: &[Range], scope: Result<&[Numbers]
 }
 
 /// The number of segments, and whether the last is open.
-fn segments(desk: &mut Desk, numbers: &[(u32, i32, i32)], scope: Result<(usize, bool), u8>) -> Outcome {
+fn segments(
+    desk: &mut Desk,
+    service: Service,
+    numbers: &[(u32, i32, i32)],
+    scope: Result<(usize, bool), u8>,
+) -> Outcome {
     let lists = Lists::of(&ranges(numbers));
-    let expected = answers::segment(20, &lists, BY_TRYING);
+    let expected = answers::segment(service, &lists, BY_TRYING);
     let open = |last: Option<&Outlook>| last == Some(&Outlook::Open);
     let found =
         expected.as_ref().map(|segments| (segments.len(), open(segments.last().map(|segment| &segment.outlook))));
     agree(format!("{scope:?}"), format!("{:?}", found.map_err(|number| *number)), &lists)?;
     desk.tally.add("worked cases of the scope", 1);
-    desk.segment(20, &lists, borrowed(&expected), &Room::enough())
+    desk.segment(service, &lists, borrowed(&expected), &Room::enough())
+}
+
+/// *Some* and *all* of each segment, none of which is open.
+fn times(
+    desk: &mut Desk,
+    service: Service,
+    numbers: &[(u32, i32, i32)],
+    scope: &[(Option<u32>, Option<u32>)],
+) -> Outcome {
+    let lists = Lists::of(&ranges(numbers));
+    let expected = answers::segment(service, &lists, BY_TRYING);
+    let times = |segment: &Segment| match segment.outlook {
+        Outlook::Open => None,
+        Outlook::Lines { some, all, .. } => Some((some, all)),
+    };
+    let found = expected.iter().flatten().map(times).collect::<Option<Vec<_>>>();
+    agree(format!("{:?}", Some(scope.to_vec())), format!("{found:?}"), &lists)?;
+    desk.tally.add("worked cases of the scope", 1);
+    desk.segment(service, &lists, borrowed(&expected), &Room::enough())
 }
 
 fn report(desk: &mut Desk, file: &[u8], scope: &str) -> Outcome {

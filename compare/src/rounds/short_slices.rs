@@ -51,13 +51,13 @@ fn on_files(desk: &mut Desk, file: &[u8]) -> Outcome {
 
 fn on_lists(desk: &mut Desk, trace: &Trace) -> Outcome {
     let lists = Lists::of(&trace.ranges);
-    let handed = (trace.address, trace.level, &lists);
+    let handed = (trace.address, trace.service, &lists);
     for room in rooms(write::PLACES, WRITE_ROOM) {
         desk.write(handed, Ok(&file::bytes(trace)), &room)?;
     }
-    let segments = segments(&trace.ranges, trace.level, BY_TRYING);
+    let segments = segments(&trace.ranges, trace.service, BY_TRYING);
     for room in rooms(columns::PLACES, SEGMENT_ROOM) {
-        desk.segment(trace.level, &lists, Ok(&segments), &room)?;
+        desk.segment(trace.service, &lists, Ok(&segments), &room)?;
     }
     let k = trace.ranges.len();
     let expected = answers::corners(k, &lists, BY_TRYING);

@@ -1,21 +1,21 @@
 //! Random small traces: every call, with Corners for every k and for some that are too large, and Preview for every
-//! range.
+//! range; and in the mirror.
 
 use crate::answers;
 use crate::desk::Desk;
 use crate::difference::Outcome;
 use crate::file;
 use crate::line::Line;
-use crate::meaning;
+use crate::meaning::{self, has_reached};
 use crate::outlook::Outlook;
 use crate::report;
 use crate::room::Room;
-use crate::rounds::previews;
+use crate::rounds::{mirrors, previews};
 use crate::segments::{BY_TRYING, Segment, Stage, segments, stages};
 use crate::tally::Tally;
-use crate::trace::{LAST_TIME, Lists, Range, Trace};
+use crate::trace::{FALLING, LAST_TIME, Lists, Range, Service, Trace};
 use crate::traces::addresses::address;
-use crate::traces::levels::level;
+use crate::traces::services::service;
 use crate::traces::small::{kinds, small_ranges};
 
 pub fn compare(desk: &mut Desk, traces: usize) -> Outcome {
@@ -27,15 +27,16 @@ pub fn compare(desk: &mut Desk, traces: usize) -> Outcome {
     for _ in 0..traces {
         let (ranges, kind) = small_ranges(&mut desk.random);
         let stages: Vec<Stage> = stages(&ranges, BY_TRYING).collect();
-        let level = level(&ranges, &stages, &mut desk.random);
-        let trace = Trace { address: address(&mut desk.random), level, ranges };
-        let segments = segments(&trace.ranges, level, BY_TRYING);
+        let service = service(&ranges, &stages, &mut desk.random);
+        let trace = Trace { address: address(&mut desk.random), service, ranges };
+        let segments = segments(&trace.ranges, service, BY_TRYING);
         meaning::check(&trace, &stages, &segments)?;
         meaning::check_fitters(&trace.ranges)?;
+        mirrors::check(&trace, &segments)?;
         desk.tally.add("small traces", 1);
         desk.tally.add(kind, 1);
         count_fits(&mut desk.tally, &trace.ranges, &stages);
-        count_times(&mut desk.tally, &stages, &segments, level);
+        count_times(&mut desk.tally, &stages, &segments, service);
         calls(desk, &trace, &segments)?;
         every_prefix(desk, &trace, &stages)?;
         previews::compare(desk, &trace, &segments)?;
@@ -47,9 +48,10 @@ fn calls(desk: &mut Desk, trace: &Trace, segments: &[Segment]) -> Outcome {
     let lists = Lists::of(&trace.ranges);
     let file = file::bytes(trace);
     let text = report::accepted(trace, segments);
-    desk.write((trace.address, trace.level, &lists), Ok(&file), &Room::enough())?;
+    desk.write((trace.address, trace.service, &lists), Ok(&file), &Room::enough())?;
     desk.read(&file, Ok(trace), &Room::enough())?;
-    desk.segment(trace.level, &lists, Ok(segments), &Room::enough())?;
+    desk.segment(trace.service, &lists, Ok(segments), &Room::enough())?;
+    mirrors::segment(desk, trace.service, &lists, Ok(segments))?;
     desk.report(&file, &text, &Room::enough())
 }
 
@@ -57,6 +59,7 @@ fn every_prefix(desk: &mut Desk, trace: &Trace, stages: &[Stage]) -> Outcome {
     let lists = Lists::of(&trace.ranges);
     for stage in stages {
         desk.corners(stage.end, &lists, Ok(&stage.corners), &Room::enough())?;
+        mirrors::corners(desk, stage.end, &lists, Ok(&stage.corners))?;
     }
     let count = stages.len();
     let huge = [4096, 1 << 32, (1 << 32) + count, 1 << 63, usize::MAX];
@@ -86,16 +89,17 @@ fn touches(corners: &[Line], range: &Range) -> bool {
     corners.iter().any(|line| at(line, range.low) || at(line, range.high))
 }
 
-fn count_times(tally: &mut Tally, stages: &[Stage], segments: &[Segment], level: i32) {
+fn count_times(tally: &mut Tally, stages: &[Stage], segments: &[Segment], service: Service) {
     tally.add("segments", segments.len());
+    let direction = if service.direction == FALLING { "falling" } else { "rising" };
     let mut end = 0;
     for segment in segments {
         end += segment.count;
         if let Outlook::Lines { some, all, .. } = segment.outlook {
-            count_time(tally, "some", some, segment.last);
-            count_time(tally, "all", all, segment.last);
-            let later = some.is_none() && reached_one_later(&stages[end - 1].corners, level);
-            tally.add("some: none, but reached one later", later as usize);
+            count_time(tally, &format!("{direction}, some"), some, segment.last);
+            count_time(tally, &format!("{direction}, all"), all, segment.last);
+            let later = some.is_none() && reached_one_later(&stages[end - 1].corners, service);
+            tally.add(&format!("{direction}, some: none, but reached one later"), later as usize);
         }
     }
 }
@@ -109,6 +113,6 @@ fn count_time(tally: &mut Tally, name: &str, time: Option<u32>, last: u32) {
     tally.add(&format!("{name}: none"), time.is_none() as usize);
 }
 
-fn reached_one_later(corners: &[Line], level: i32) -> bool {
-    corners.iter().any(|line| line.above(level as i128, LAST_TIME as i128 + 1) >= 0)
+fn reached_one_later(corners: &[Line], service: Service) -> bool {
+    corners.iter().any(|line| has_reached(line, LAST_TIME as i128 + 1, service))
 }

@@ -10,7 +10,7 @@ use crate::calls::columns::PLACES;
 use crate::calls::segment::row;
 use crate::report::segment_line;
 use crate::segments::Segment;
-use crate::trace::MOST_RANGES;
+use crate::trace::{MOST_RANGES, Service};
 
 /// As many segments are written from the start on, and the last one.
 const SHOWN: usize = 6;
@@ -51,16 +51,17 @@ const LONG: [Long; 28] = [
     ("4097 ranges but for one high", Shape::Bowl, 0, 1, 0, ALL + 1, ALL),
 ];
 
-/// A trial has the level and the place of the slice that is one too short, if any.
+/// A trial has the level, then the place of the slice that is one too short, 11 for none, then the direction; 11 and 0
+/// stand for those that are left out.
 pub fn trial(trial: &Trial) -> String {
-    let answer = answers::segment(trial.level(), &trial.lists, FITTER);
+    let answer = answers::segment(trial.service(), &trial.lists, FITTER);
     told(&trial.unless_short(PLACES, answer))
 }
 
 pub fn long() -> String {
     let told = |(name, shape, first, gap, level, count, highs)| {
         let lists = Shaped { shape, first, gap }.lists(count, highs);
-        format!("# {name}\n{}", told(&answers::segment(level, &lists, FITTER)))
+        format!("# {name}\n{}", told(&answers::segment(Service::rising(level), &lists, FITTER)))
     };
     LONG.map(told).concat()
 }

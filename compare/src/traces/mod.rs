@@ -4,5 +4,6 @@ pub mod addresses;
 pub mod grown;
 pub mod levels;
 pub mod long;
+pub mod services;
 pub mod small;
 pub mod times;

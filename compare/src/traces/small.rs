@@ -2,6 +2,7 @@
 
 use super::addresses::address;
 use super::grown;
+use super::services::small_service;
 use super::times::times;
 use crate::line::Line;
 use crate::random::Random;
@@ -30,10 +31,10 @@ pub fn kinds() -> impl Iterator<Item = &'static str> {
     KINDS.iter().map(|(name, _)| *name).chain([GROWN, EMPTY])
 }
 
-/// A small trace at some level.
+/// A small trace at some level, in some direction.
 pub fn small_trace(random: &mut Random) -> Trace {
     let (ranges, _) = small_ranges(random);
-    Trace { address: address(random), level: random.between(-50, 50) as i32, ranges }
+    Trace { address: address(random), service: small_service(random), ranges }
 }
 
 /// The ranges of a small trace, and what kind they are of.

@@ -2,6 +2,7 @@
 
 use super::super::declarations::{humoraki_add, humoraki_head_ranges};
 use super::super::{MOST_HEADS, Outlook, segment};
+use super::Direction::{Falling, Rising};
 use super::*;
 use std::ptr::null_mut;
 
@@ -35,22 +36,32 @@ fn refused(panel: &Panel, (address, time, low, high): (u32, u32, i32, i32), numb
 /// That both calls turn the panel down with this number, whatever else is wrong.
 fn refused_whole(panel: &Panel, number: u8) {
     refused(panel, (8, 20, 5, i32::MAX), number);
-    assert_eq!(panel.trace(8, 20), Err(number));
+    assert_eq!(panel.trace(8, 20, Rising), Err(number));
 }
 
 #[test]
 fn ranges_come_back_head_by_head() {
     let panel = example();
     assert_eq!(panel.entries(), [Entry { address: 7, held: 2 }, Entry { address: 9, held: 1 }]);
-    let trace = Trace { address: 7, level: 20, times: vec![10, 20], lows: vec![0, 0], highs: vec![4, 4] };
-    assert_eq!(panel.trace(7, 20), Ok(trace));
-    assert_eq!(panel.trace(9, 20).map(|trace| trace.times), Ok(vec![30]));
-    assert_eq!(panel.trace(8, 20), Err(12));
+    let (times, lows, highs) = (vec![10, 20], vec![0, 0], vec![4, 4]);
+    assert_eq!(
+        panel.trace(7, 20, Falling),
+        Ok(Trace { address: 7, level: 20, direction: Falling, times, lows, highs })
+    );
+    assert_eq!(panel.trace(9, 20, Rising).map(|trace| trace.times), Ok(vec![30]));
+    assert_eq!(panel.trace(8, 20, Rising), Err(12));
 }
 
 #[test]
 fn a_head_has_segments() {
-    let segments = segment(&example().trace(7, 20).unwrap()).unwrap();
+    let segments = segment(&example().trace(7, 20, Rising).unwrap()).unwrap();
+    assert_eq!((segments.len(), segments[0].ranges), (1, 2));
+    assert!(matches!(segments[0].outlook, Outlook::Lines { some: Some(60), all: None, .. }));
+}
+
+#[test]
+fn both_directions_are_on_one_panel() {
+    let segments = segment(&example().trace(7, -16, Falling).unwrap()).unwrap();
     assert_eq!((segments.len(), segments[0].ranges), (1, 2));
     assert!(matches!(segments[0].outlook, Outlook::Lines { some: Some(60), all: None, .. }));
 }
