@@ -19,9 +19,8 @@ use lib.ListN.{length}
 use Rattle.definitions.specs.Spans.{segmentRoom, cornerRoom}
 use Rattle.definitions.specs.Services.{Service}
 use Rattle.definitions.specs.Ranges.{Range, Lists}
-use Rattle.definitions.specs.Outlook as outlook
-use Rattle.definitions.specs.Outlook.{Outlook, lines}
-use Rattle.definitions.specs.Results.{slowLine, fastLine, someNumber, allNumber, outlookNumbers}
+use Rattle.definitions.specs.Outlook.{Outlook}
+use Rattle.definitions.specs.Results.{numbersOf, outlookNumbers, lastEight}
 use Rattle.definitions.specs.Answers.{accepted, _>>=_, refusal}
 use Rattle.definitions.specs.Trial.{tooShort}
 use Rattle.definitions.specs.Calls.{Fit, open-strip, bounded}
@@ -33,7 +32,7 @@ use Rattle.drift.specs.Columns.{lengths, rowAt}
 use Rattle.drift.specs.SegmentPromise.{segmentMeaning}
 use Rattle.drift.specs.CornersPromise.{corner-count, countOf, cornersIn, cornersMeaning, threeLengths}
 use Rattle.drift.specs.CornerTheorems.{givenLines}
-use Rattle.drift.specs.MirroredCalls.{segment-call-mirrored, corner-count-mirrored}
+use Rattle.drift.specs.MirroredCalls.{segment-call-mirrored, numbers-mirrored, corner-count-mirrored}
 use Rattle.drift.specs.Mirror.{segment-mirrored, rows-mirrored, ring-mirrored}
 use Rattle.preview.specs.Mirror.{preview-call-mirrored}
 use Rattle.humoraki.specs.Promises.{SegmentLent, segmentAnswer, AfterSegment, cornerNumber, CornersLent, cornersAnswer, AfterCorners, PreviewLent, previewAnswer, AfterPreview}
@@ -72,10 +71,10 @@ unfolding kindNumber mirroredEffect
 kind-kept (joins o) = refl
 kind-kept (begins o) = refl
 
+-- the last eight numbers of a row
 eight-mirrored : (o : Outlook) → outlookNumbers (mirroredOutlook o) ≡ mirroredEight (outlookNumbers o)
-unfolding mirroredOutlook slowLine fastLine someNumber allNumber
-eight-mirrored outlook.open-strip = refl
-eight-mirrored (lines slow fast t u) = refl
+unfolding numbersOf mirroredSegment mirroredNumbers
+eight-mirrored o = ap lastEight (numbers-mirrored (record { firstTime = 0; lastTime = 0; count = 0; outlook = o }))
 
 effect-eight : (e : Effect) → outlookNumbers (effectOutlook (mirroredEffect e)) ≡ mirroredEight (outlookNumbers (effectOutlook e))
 unfolding effectOutlook mirroredEffect

@@ -23,7 +23,7 @@
 --
 -- Laws without an environment:
 --     negated-in, negated-is         0 − x, as code negates a signed number that has a bound which the width holds, is within that bound, and is −x
---         sub-size c = fits (negated-in w64 (c .pre) tt) tt
+--         sub-t2 c = fits (negated-in w64 (c .before .before .pre .bounds .p-in) tt) tt
 --     toZ-fits                       any bits, read as a signed number, fit
 -- Assumes nothing.
 use mathlib.Core.Path.{_≡_, refl, sym, _∙_, ap, ap₂, subst}

@@ -6,7 +6,7 @@
 --     reachTime-falling                so when a line falls to a level is when its image rises to the negated one
 --
 -- Assumes nothing.
-use mathlib.Core.Path.{_≡_, refl, sym, ap₂}
+use mathlib.Core.Path.{_≡_, refl, sym, ap₂, _∙_}
 use mathlib.Core.Logic.{_↔_}
 use mathlib.Core.List.{List, [], _∷_, map}
 use Prim.Native.Nat.{ℕ, zero, suc, _≤_}
@@ -19,9 +19,9 @@ use Rattle.integers.specs.Booleans.{T-ext}
 use Rattle.integers.specs.Least.{firstByEnds}
 use Rattle.definitions.specs.Spans.{mostTime, mostDirection}
 use Rattle.definitions.specs.Ranges.{Range}
-use Rattle.definitions.specs.Services.{directionOf, Service}
-use Rattle.definitions.specs.Lines.{Line, reading}
-use Rattle.definitions.specs.Outlook.{hasReached}
+use Rattle.definitions.specs.Services.{falling, directionOf, Service}
+use Rattle.definitions.specs.Lines.{Line, reading, sideAt}
+use Rattle.definitions.specs.Outlook.{passed, hasReached}
 use Rattle.definitions.specs.Mirrors.{mirroredLine, mirroredRange, opposite, mirroredService}
 use Rattle.definitions.specs.Fit.{ReachedBy, Reached}
 use Rattle.lines.specs.Levels.{hasReached-iff}
@@ -64,6 +64,8 @@ module _ (v : Service) (good : v .direction ≤ mostDirection) where
   reachTime-mirrored from l = λ i. firstByEnds (λ t. hasReached-mirrored t l i) from mostTime
 
 -- of every number that stands for falling
-pub reachTime-falling : (level : ℤ) (n from : ℕ) (l : Line) → reachTime (record { level = level; direction = suc n }) from l ≡ reachTime (rises (negℤ level)) from (mirroredLine l)
+pub reachTime-falling : (v : Service) → directionOf (v .direction) ≡ falling → (from : ℕ) (l : Line) → reachTime v from l ≡ reachTime (rises (negℤ (v .level))) from (mirroredLine l)
 unfolding reachTime hasReached directionOf
-reachTime-falling level n from l = sym (reachTime-mirrored (record { level = level; direction = 1 }) (omega arith) from l)
+reachTime-falling v e from l =
+    (λ i. firstByEnds (λ t. passed (e i) (sideAt l (v .level) t)) from mostTime)
+    ∙ sym (reachTime-mirrored (record { level = v .level; direction = 1 }) (omega arith) from l)

@@ -1,6 +1,6 @@
 -- The outlook of a run of two or more ranges, by the polygon's two lines: what a program has to compute, and what it means. For a direction that is the number 0 or 1; the falling case is the rising one of the mirror image.
 --
---     leading, trailing          the line that decides *some*, and the line that decides *all*: rising, the fast one and the slow one; falling, the other way round
+--     leading, trailing          of the slow and the fast line, the one that decides *some* and the other, that decides *all*: rising, the fast one leads; falling, the slow one
 --     first-last                 the first and the last of the fitting lines are the polygon's slow and fast line
 --     OutlookMeans, outlook-means   the slow line has the least slope of the whole fit and the fast line the greatest; *some* and *all* are the least times of the scope, over all lines of the fit, and each is the time of one line
 --     outlook-by-lines           the outlook is the polygon's two lines in lowest terms, with the time at which the leading one reaches the level and the time at which the trailing one does
@@ -42,8 +42,7 @@ leading rising slow fast = fast
 leading falling slow fast = slow
 
 abbrev pub trailing : Direction → Line → Line → Line
-trailing rising slow fast = slow
-trailing falling slow fast = fast
+trailing e slow fast = leading e fast slow
 
 pub record OutlookMeans (v : Service) (rs : List Range) (from : ℕ) (k l : Line) (some all : Time) : Type 0 where
   pub slow-proper : Proper k
@@ -188,13 +187,11 @@ leading-mirrored zero good k l = sym (negL-negL k)
 leading-mirrored (suc zero) good k l = sym (negL-negL l)
 leading-mirrored (suc (suc n)) good k l = absurd (omega arith)
 
-trailing-mirrored : (n : ℕ) → n ≤ mostDirection → (k l : Line) → trailing (directionOf (opposite n)) k l ≡ mirroredLine (trailing (directionOf n) (mirroredLine l) (mirroredLine k))
-unfolding directionOf
-trailing-mirrored zero good k l = sym (negL-negL l)
-trailing-mirrored (suc zero) good k l = sym (negL-negL k)
-trailing-mirrored (suc (suc n)) good k l = absurd (omega arith)
-
 module _ (v : Service) (good : v .direction ≤ mostDirection) (rs : List Range) where
+  time-back : (from : ℕ) (k l : Line) → reachTime (mirroredService v) from (leading (directionOf (opposite (v .direction))) k l) ≡ reachTime v from (leading (directionOf (v .direction)) (mirroredLine l) (mirroredLine k))
+  time-back from k l =
+      ap (reachTime (mirroredService v) from) (leading-mirrored (v .direction) good k l) ∙ reachTime-mirrored v good from (leading (directionOf (v .direction)) (mirroredLine l) (mirroredLine k))
+
   some-back : (t : ℕ) → SomeReached (mirrored rs) (mirroredService v) t ↔ SomeReached rs v t
   some-back t = (
     λ x. record {
@@ -222,8 +219,8 @@ module _ (v : Service) (good : v .direction ≤ mostDirection) (rs : List Range)
         fast-greatest = λ m f. subst (λ j. SlopeAtMost j (mirroredLine k)) (negL-negL m) (neg-slope≤ k (mirroredLine m) (x .slow-least (mirroredLine m) (InFit-mirrored f)));
         some-is = least-iff (λ t a b. some-back t) (x .some-is);
         all-is = least-iff (λ t a b. all-back t) (x .all-is);
-        some-by = x .some-by ∙ ap (reachTime (mirroredService v) from) (leading-mirrored (v .direction) good k l) ∙ reachTime-mirrored v good from (leading (directionOf (v .direction)) (mirroredLine l) (mirroredLine k));
-        all-by = x .all-by ∙ ap (reachTime (mirroredService v) from) (trailing-mirrored (v .direction) good k l) ∙ reachTime-mirrored v good from (trailing (directionOf (v .direction)) (mirroredLine l) (mirroredLine k));
+        some-by = x .some-by ∙ time-back from k l;
+        all-by = x .all-by ∙ time-back from l k;
       }
 
   means-back : (from : ℕ) (x : Outlook) → MeansOf (mirroredService v) (mirrored rs) from x → MeansOf v rs from (mirroredOutlook x)
@@ -267,19 +264,13 @@ module _ (r s : Range) (ws : List Range) (o : Ordered (r ∷ s ∷ ws)) (h : Has
         (reachTime v (endTime s ws) (trailing (directionOf (v .direction)) (slow r s ws) (fast r s ws)))
     outlook-by-lines =
         shown r s ws o h v
-        ∙ ap₂ (lines (reduced (slow r s ws)) (reduced (fast r s ws))) (run-means .some-by ∙ as-is (directionOf (v .direction)) .0) (run-means .all-by ∙ as-is (directionOf (v .direction)) .1)
+        ∙ ap₂ (lines (reduced (slow r s ws)) (reduced (fast r s ws)))
+        (run-means .some-by ∙ as-is (directionOf (v .direction)) (slow r s ws) (fast r s ws) (slow-restates r s ws o h) (fast-restates r s ws o h))
+        (run-means .all-by ∙ as-is (directionOf (v .direction)) (fast r s ws) (slow r s ws) (fast-restates r s ws o h) (slow-restates r s ws o h))
       where
         from : ℕ
         from = endTime s ws
 
-        by-slow : reachTime v from (reduced (slow r s ws)) ≡ reachTime v from (slow r s ws)
-        by-slow = sym (reachTime-same v from (slow-restates r s ws o h))
-
-        by-fast : reachTime v from (reduced (fast r s ws)) ≡ reachTime v from (fast r s ws)
-        by-fast = sym (reachTime-same v from (fast-restates r s ws o h))
-
-        as-is : (e : Direction)
-            → (reachTime v from (leading e (reduced (slow r s ws)) (reduced (fast r s ws))) ≡ reachTime v from (leading e (slow r s ws) (fast r s ws)))
-            × (reachTime v from (trailing e (reduced (slow r s ws)) (reduced (fast r s ws))) ≡ reachTime v from (trailing e (slow r s ws) (fast r s ws)))
-        as-is rising = (by-fast, by-slow)
-        as-is falling = (by-slow, by-fast)
+        as-is : (e : Direction) (k l : Line) → Restates k (reduced k) → Restates l (reduced l) → reachTime v from (leading e (reduced k) (reduced l)) ≡ reachTime v from (leading e k l)
+        as-is rising k l a b = sym (reachTime-same v from b)
+        as-is falling k l a b = sym (reachTime-same v from a)

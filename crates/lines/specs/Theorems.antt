@@ -1,4 +1,4 @@
--- The front page: what the scope's definitions mean. Ranges are ordered, as those of every accepted trace are; p, q and d of a line are of any size, d above 0.
+-- The front page: what the scope's definitions mean. Ranges are ordered, as those of every accepted trace are; p, q and d of a line are of any size, d above 0. A direction is the number 0 or 1, as every accepted one is.
 --
 -- The fit
 --     has-line                   `hasLine` passes exactly if some line fits each of the ranges

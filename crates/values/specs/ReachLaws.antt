@@ -1,16 +1,17 @@
 -- When a line rises to a level, by the tests that tell it; and the mirror image of a line, as code makes it.
 --
 --     reach-now                  it does at `from`, where it is not below then
---     reach-falling              never, where it is below then and does not rise
+--     crossing-never             never, where it is below then and does not rise
 --     crossingOf                 the time at which p·t + q is the level's or more for a line that rises: (d·level − q)/p rounded up
 --     crossing-nonneg            it is not below 0, where the line is below at `from`
---     reach-rising, reach-late   it does at that time, or never where that is past the greatest time
---     look-rising, look-falling  the outlook of two lines, from the lines and times that a program has of them
+--     crossing-at, crossing-late it does at that time, or never where that is past the greatest time
+--     is-falling                 a number of a direction that is not 0 stands for falling
+--     looked-ahead               the outlook of two lines, from the lines and times that a program has of them
 --     mirrored-by                the line that code makes with −p and −q, each as 0 − x, is the mirror image
 --
 -- Assumes nothing.
-use mathlib.Core.Path.{_≡_, sym, ap, _∙_}
-use Prim.Native.Nat.{ℕ, _≤_, _<_}
+use mathlib.Core.Path.{_≡_, refl, sym, ap, _∙_}
+use Prim.Native.Nat.{ℕ, zero, suc, _≤_, _<_}
 use native.Mathlib.Nat as NatL
 use native.Mathlib.Omega.{arith}
 use mir.Syntax.{w64}
@@ -24,7 +25,7 @@ use Rattle.integers.specs.Least.{IsLeast, least-at, least-unique}
 use Rattle.integers.specs.Crossing.{Reaches, crossing, crossing-after, reach-after, reach-too-late, reach-never}
 use Rattle.definitions.specs.Spans.{mostTime}
 use Rattle.definitions.specs.Times.{Time, none, at}
-use Rattle.definitions.specs.Services.{Service, rising, falling, directionOf}
+use Rattle.definitions.specs.Services.{Direction, falling, directionOf, Service}
 use Rattle.definitions.specs.Lines.{Line, reading}
 use Rattle.definitions.specs.Corners.{reduced}
 use Rattle.definitions.specs.Outlook.{lines}
@@ -48,9 +49,9 @@ module _ (l : Line) (level : ℤ) (from : ℕ) (in-time : from ≤ mostTime) whe
   reach-now reached = reach-is (least-at from (NatL.le-refl from) in-time reached (λ s a b. absurd (omega arith)))
 
   module _ (under : BelowAt l level from) where
-    pub reach-falling : (l .p) ≤ℤ pos 0 → reachTime (rises level) from l ≡ none
+    pub crossing-never : (l .p) ≤ℤ pos 0 → reachTime (rises level) from l ≡ none
     unfolding reading
-    reach-falling falls = reach-is (reach-never (l .p) (l .q) (l .d *ℤ level) from mostTime falls under)
+    crossing-never falls = reach-is (reach-never (l .p) (l .q) (l .d *ℤ level) from mostTime falls under)
 
     module _ (ascends : pos 0 <ℤ (l .p)) where
       is-crossing : crossingOf l level ≡ pos (crossing (l .p) (l .q) (l .d *ℤ level))
@@ -60,32 +61,31 @@ module _ (l : Line) (level : ℤ) (from : ℕ) (in-time : from ≤ mostTime) whe
       pub crossing-nonneg : pos 0 ≤ℤ crossingOf l level
       crossing-nonneg = rw is-crossing (omega ints)
 
-      pub reach-rising : crossingOf l level ≤ℤ pos mostTime → reachTime (rises level) from l ≡ at (natAbs (crossingOf l level))
+      pub crossing-at : crossingOf l level ≤ℤ pos mostTime → reachTime (rises level) from l ≡ at (natAbs (crossingOf l level))
       unfolding reading
-      reach-rising early =
+      crossing-at early =
           let early-c : crossing (l .p) (l .q) (l .d *ℤ level) ≤ mostTime = omega (ints, is-crossing) in
           reach-is (reach-after (l .p) (l .q) (l .d *ℤ level) from mostTime ascends under early-c)
           ∙ ap (λ z. at (natAbs z)) (sym is-crossing)
 
-      pub reach-late : pos mostTime <ℤ crossingOf l level → reachTime (rises level) from l ≡ none
+      pub crossing-late : pos mostTime <ℤ crossingOf l level → reachTime (rises level) from l ≡ none
       unfolding reading
-      reach-late late =
+      crossing-late late =
           let late-c : mostTime < crossing (l .p) (l .q) (l .d *ℤ level) = omega (ints, is-crossing) in
           reach-is (reach-too-late (l .p) (l .q) (l .d *ℤ level) from mostTime ascends late-c)
 
 -- ---- two lines
 
-module _ (slow fast : Line) (v : Service) (last : ℕ) {k l : Line} {by-slow by-fast : Time} (slow-is : k ≡ reduced slow) (fast-is : l ≡ reduced fast)
-    (by-slow-is : by-slow ≡ reachTime v last slow) (by-fast-is : by-fast ≡ reachTime v last fast) where
-  pub look-rising : directionOf (v .direction) ≡ rising → lines k l by-fast by-slow ≡ lookAhead slow fast v last
-  look-rising e =
-      (λ i. lines (slow-is i) (fast-is i) (by-fast-is i) (by-slow-is i))
-      ∙ sym (ap (λ d. lines (reduced slow) (reduced fast) (reachTime v last (leading d slow fast)) (reachTime v last (trailing d slow fast))) e)
+pub is-falling : (n : ℕ) → ¬ (n ≡ 0) → directionOf n ≡ falling
+unfolding directionOf
+is-falling zero other = absurd (other refl)
+is-falling (suc n) other = refl
 
-  pub look-falling : directionOf (v .direction) ≡ falling → lines k l by-slow by-fast ≡ lookAhead slow fast v last
-  look-falling e =
-      (λ i. lines (slow-is i) (fast-is i) (by-slow-is i) (by-fast-is i))
-      ∙ sym (ap (λ d. lines (reduced slow) (reduced fast) (reachTime v last (leading d slow fast)) (reachTime v last (trailing d slow fast))) e)
+pub looked-ahead : (slow fast : Line) (v : Service) (last : ℕ) (e : Direction) → directionOf (v .direction) ≡ e → {k l : Line} {some all : Time} → k ≡ reduced slow → l ≡ reduced fast
+    → some ≡ reachTime v last (leading e slow fast) → all ≡ reachTime v last (trailing e slow fast) → lines k l some all ≡ lookAhead slow fast v last
+looked-ahead slow fast v last e is slow-is fast-is some-is all-is =
+    (λ i. lines (slow-is i) (fast-is i) (some-is i) (all-is i))
+    ∙ sym (ap (λ d. lines (reduced slow) (reduced fast) (reachTime v last (leading d slow fast)) (reachTime v last (trailing d slow fast))) is)
 
 -- ---- the mirror image as code makes it
 

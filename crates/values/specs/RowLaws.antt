@@ -1,4 +1,4 @@
--- A segment is told by its row: `segmentFrom` turns `numbersOf` round, for every segment of a trace.
+-- A segment is told by its row: `segmentFrom` turns `numbersOf` round, for every segment of a trace whose direction is 0 or 1.
 --
 --     Telling n o            of an outlook o of n ranges: open has fewer than two, lines have two or more, and a time is in its span
 --     time-back              a time from its number

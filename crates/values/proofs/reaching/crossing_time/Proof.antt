@@ -15,7 +15,7 @@ use Rattle.definitions.specs.Times.{at}
 use Rattle.values.specs.Meanings.{lineOf, timeOf}
 use Rattle.values.specs.Signed.{as-i64, read-back, cast-nonneg}
 use Rattle.values.specs.Readings.{scaled-sizes, rest-is, rest-in}
-use Rattle.values.specs.ReachLaws.{crossingOf, crossing-nonneg, reach-falling, reach-rising, reach-late}
+use Rattle.values.specs.ReachLaws.{crossingOf, crossing-nonneg, crossing-never, crossing-at, crossing-late}
 use Rattle.values.proofs.reaching.crossing_time.Statement.{statement}
 use Rattle.values.proofs.reaching.crossing_time.Tie as tie
 
@@ -56,21 +56,21 @@ unfolding timeOf
 returns c =
     let s = c .before .before .before .before .before .before .before .before in
     ap (λ z. at (natAbs z)) (quotient-is (c .before))
-    ∙ sym (reach-rising (lineOf (s .args .l)) (s .args .level) (s .args .from) (omega arith) (s .pre .2) (ascends (c .before .before .before .before .before .before)) (early c))
+    ∙ sym (crossing-at (lineOf (s .args .l)) (s .args .level) (s .args .from) (omega arith) (s .pre .2) (ascends (c .before .before .before .before .before .before)) (early c))
 
 returns-2 : tie.Need-returns-2
 unfolding timeOf
 returns-2 c =
     let s = c .before .before .before .before .before .before .before .before in
     let late : pos mostTime <ℤ as-i64 (c .before .ceil-div .result) = machine-linear! (toZ-fits w64 (ofZ w64 (c .before .ceil-div .result)) ▸ end) (c .if2 .left) (search tests depth 30) tt (omega arith) in
-    sym (reach-late (lineOf (s .args .l)) (s .args .level) (s .args .from) (omega arith) (s .pre .2) (ascends (c .before .before .before .before .before .before)) (rw (quotient-is (c .before)) at late))
+    sym (crossing-late (lineOf (s .args .l)) (s .args .level) (s .args .from) (omega arith) (s .pre .2) (ascends (c .before .before .before .before .before .before)) (rw (quotient-is (c .before)) at late))
 
 returns-3 : tie.Need-returns-3
 unfolding timeOf
 returns-3 c =
     let s = c .before .before in
     let falls : (s .args .l .p) ≤ℤ pos 0 = machine-linear! (s .pre .0 .bounds .p-in ▹ end) (c .if1 .left) (search tests depth 30) tt (omega arith) in
-    sym (reach-falling (lineOf (s .args .l)) (s .args .level) (s .args .from) (omega arith) (s .pre .2) falls)
+    sym (crossing-never (lineOf (s .args .l)) (s .args .level) (s .args .from) (omega arith) (s .pre .2) falls)
 
 pub crossing-time-spec : {M : Type 1} → statement M
 crossing-time-spec = tie.close (tie.spec cast-ceil-div mul-ceil-div sub-ceil-div ceil-div-requires cast-t13 returns returns-2 returns-3)

@@ -1,17 +1,14 @@
 -- `values::reaching::reach_time` meets its contract: where the trace falls, the mirror image of the line rises to the level negated when the line falls to the level. Assumes nothing.
-use Prim.Native.Nat.{ℕ, zero, suc}
-use mathlib.Core.Path.{_≡_, refl, sym, ap, ap₂, _∙_}
-use lib.IntN.{ℤ, negℤ}
+use mathlib.Core.Path.{sym, ap, ap₂, _∙_}
 use mir.Syntax.{w32}
 use borrow.Author.Needs.{needs}
 use Rattle.integers.specs.Bounds.{fits, in-neg}
 use Rattle.integers.specs.Machine.{negated-in, negated-is}
-use Rattle.definitions.specs.Lines.{Line}
-use Rattle.definitions.specs.Mirrors.{mirroredLine}
 use Rattle.lines.specs.OutlookTimes.{reachTime, rises}
 use Rattle.lines.specs.Mirrored.{reachTime-falling}
-use Rattle.values.specs.Meanings.{lineOf}
+use Rattle.values.specs.Meanings.{lineOf, serviceOf}
 use Rattle.values.specs.Signed.{read-back}
+use Rattle.values.specs.ReachLaws.{is-falling}
 use Rattle.values.proofs.reaching.reach_time.Statement.{statement}
 use Rattle.values.proofs.reaching.reach_time.Tie as tie
 
@@ -37,18 +34,13 @@ rise-time-requires-2 c κs =
     let s = c .before .before .before .before .before in
     (c .before .before .mirrored .ensures .small, rw (negated-is w32 (s .pre .1 .level-within) tt) (in-neg (s .pre .1 .level-within)))
 
--- a direction that is not 0 is falling
-fallen : (level : ℤ) (n : ℕ) (from : ℕ) (l : Line) → ¬ (n ≡ 0) → reachTime (rises (negℤ level)) from (mirroredLine l) ≡ reachTime (record { level = level; direction = n }) from l
-fallen level zero from l other = absurd (other refl)
-fallen level (suc n) from l other = sym (reachTime-falling level n from l)
-
 returns-2 : tie.Need-returns-2
 returns-2 c =
     let s = c .before .before .before .before .before .before in
     let v = s .args .v in
     c .rise-time2 .ensures
     ∙ ap₂ (λ z k. reachTime (rises z) (s .args .from) k) (negated-is w32 (s .pre .1 .level-within) tt) (c .before .before .before .mirrored .ensures .is)
-    ∙ fallen (v .level) (v .direction) (s .args .from) (lineOf (s .args .l)) (c .before .before .before .before .if1 .left)
+    ∙ sym (reachTime-falling (serviceOf v) (is-falling (v .direction) (c .before .before .before .before .if1 .left)) (s .args .from) (lineOf (s .args .l)))
 
 pub reach-time-spec : {M : Type 1} → statement M
 reach-time-spec =
