@@ -26,11 +26,15 @@
  * A slice is a pointer and the number of its entries. What C cannot say and a caller has to keep:
  *   - each pointer of a slice points to as many entries as the length beside it tells, aligned as its type asks; beside
  *     a length of 0 it may be null;
- *   - each pointer to a single number points to one, and is never null;
+ *   - each pointer to a single number points to one, aligned as well, and is never null;
  *   - what a function fills, sets or changes overlaps nothing else that it is lent.
  * What a function fills or sets is never read, so it need not be initialised: it is written on success, and else left
  * alone. A panel alone is both read and changed, by humoraki_add.
  * After success, entries past the reported count hold their old contents.
+ *
+ * A range is a time, from 0 to 4,294,967,295, with a low and a high, each from -268,435,456 to 268,435,456, low at most
+ * high. The ranges of a trace have rising times, and there are at most 4,096 of them. docs/SCOPE.md has the form of a
+ * trace file and the order of corners, docs/LIBRARY.md the stack that each function needs.
  */
 #ifndef HUMORAKI_H
 #define HUMORAKI_H
@@ -55,7 +59,10 @@ extern "C" {
 /* The largest number of entries, one for each head, that a panel may have. */
 #define HUMORAKI_MOST_HEADS 64
 
-/* Stands for a time that there is not, in somes and alls, and in some and all of humoraki_preview. */
+/*
+ * Stands for a time that there is not, in somes and alls, and in some and all of humoraki_preview. Times end with
+ * 4,294,967,295, so a level that is reached only later counts as never reached.
+ */
 #define HUMORAKI_NONE UINT64_C(4294967296)
 
 /*
@@ -72,7 +79,8 @@ extern "C" {
 /*
  * The columns of a segment's row, as parameters in their order: slices, each filled with one entry for each segment.
  * A line has the value (p * t + q) / d at t. It has reached the level where that is at or above the level on a rising
- * trace, and at or below it on a falling one. Slow is the line of least slope, fast that of greatest, on both.
+ * trace, and at or below it on a falling one. Slow is the line of least slope, fast that of greatest, on both: so it is
+ * the slow line that first reaches the level of a falling trace.
  * A segment of one range is open: it has 0 in every column after counts.
  */
 #define HUMORAKI_SEGMENT_COLUMNS \
@@ -207,7 +215,8 @@ uint8_t humoraki_preview(int32_t level, uint32_t direction,
  * text   filled with the report's bytes; each line ends with a line feed
  * count  set to the number of bytes
  *
- * A file that is turned down has a report too, so 8, for a text that is too short, is the only refusal.
+ * A file that is turned down has a report too, so 8, for a text that is too short, is the only refusal. The times are
+ * those of the direction that the file says; the text itself does not tell which that is.
  */
 uint8_t humoraki_report(const uint8_t *file, size_t file_len,
                         uint8_t *text, size_t text_len,
