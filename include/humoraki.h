@@ -1,6 +1,6 @@
 /*
- * Humoraki: the segments of a smoke detector's trace, when the detector must be serviced, and what one range more would
- * do to both; the ranges of many detectors on one panel.
+ * Humoraki: the segments of a smoke detector's trace, when the detector must be serviced, what one range more would do
+ * to both, and the latest trend; the ranges of many detectors on one panel.
  *
  * Link with libhumoraki.a, which `rt staticlib humoraki` writes to target/staticlib/.
  *
@@ -50,7 +50,7 @@ extern "C" {
 #define HUMORAKI_READ_ROOM 4096     /* times, lows, highs */
 #define HUMORAKI_WRITE_ROOM 61456   /* the bytes of a trace file */
 #define HUMORAKI_SEGMENT_ROOM 2048  /* each column of a segment's row */
-#define HUMORAKI_CORNER_ROOM 8192   /* ps, qs, ds */
+#define HUMORAKI_CORNER_ROOM 8192   /* ps, qs, ds, of humoraki_corners and of humoraki_latest */
 #define HUMORAKI_REPORT_ROOM 524544 /* the text of a report: 256 bytes for each of 2,049 lines */
 
 /* The least number of entries in each of a panel's four lists, and in each that humoraki_head_ranges fills. */
@@ -60,8 +60,8 @@ extern "C" {
 #define HUMORAKI_MOST_HEADS 64
 
 /*
- * Stands for a time that there is not, in somes and alls, and in some and all of humoraki_preview. Times end with
- * 4,294,967,295, so a level that is reached only later counts as never reached.
+ * Stands for a time that there is not, in somes and alls, and in some and all of humoraki_preview and humoraki_latest.
+ * Times end with 4,294,967,295, so a level that is reached only later counts as never reached.
  */
 #define HUMORAKI_NONE UINT64_C(4294967296)
 
@@ -207,6 +207,41 @@ uint8_t humoraki_preview(int32_t level, uint32_t direction,
                          int64_t *slow_p, int64_t *slow_q, int64_t *slow_d,
                          int64_t *fast_p, int64_t *fast_q, int64_t *fast_d,
                          uint64_t *some, uint64_t *all);
+
+/*
+ * The latest trend: the longest run of ranges at the end of a trace that some line fits, with its outlook and the
+ * corners of its fit. Like the last segment it ends with the last range, and it can begin before that segment does.
+ *
+ * level                   the service level, -268,435,456 to 268,435,456
+ * direction               HUMORAKI_RISING or HUMORAKI_FALLING; any other number is refused with 4
+ * times, lows, highs      the ranges, in lists of one length
+ * ps, qs, ds              filled with the corners, in corner order: the value at t is (p * t + q) / d
+ * ranges                  set to the number of ranges of the run: it has the last ones of the lists
+ * slow_p, slow_q, slow_d  set to the slow line of the run
+ * fast_p, fast_q, fast_d  set to its fast line
+ * some                    set to the first time, from that of the last range on, at which some fitting line has reached
+ *                         the level, as in humoraki_segment, or to HUMORAKI_NONE
+ * all                     set to the first at which every fitting line has, or to HUMORAKI_NONE
+ * corners                 set to the number of corners; 0 says that the run is open
+ *
+ * Lists without ranges have a run of 0 ranges. Such a run is open, as one of a single range is: the eight numbers from
+ * slow_p to all are set to 0, and there are no corners. Any two ranges have a line, so with more of them the run has at
+ * least two, and is not open. The d of a line is above 0.
+ *
+ * Refusals: 8, 10, 7, level and direction 4, then range by range 4, 5, 6.
+ */
+uint8_t humoraki_latest(int32_t level, uint32_t direction,
+                        const uint32_t *times, size_t times_len,
+                        const int32_t *lows, size_t lows_len,
+                        const int32_t *highs, size_t highs_len,
+                        int64_t *ps, size_t ps_len,
+                        int64_t *qs, size_t qs_len,
+                        int64_t *ds, size_t ds_len,
+                        size_t *ranges,
+                        int64_t *slow_p, int64_t *slow_q, int64_t *slow_d,
+                        int64_t *fast_p, int64_t *fast_q, int64_t *fast_d,
+                        uint64_t *some, uint64_t *all,
+                        size_t *corners);
 
 /*
  * The report of a trace file: a line for the trace and one for each segment, or `refused` and the number.

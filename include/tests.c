@@ -1,8 +1,8 @@
 /*
  * Tries from C what humoraki.h says of memory that is lent: a pointer beside a length of 0 may be null, and what a
  * function fills, sets or changes is written on success and left alone else. Then writes and reads back the addresses
- * at the ends of their span and both directions, hands in numbers past them, previews ranges, and fills a panel. Prints
- * what is not so, and then ends with 1.
+ * at the ends of their span and both directions, hands in numbers past them, previews ranges, asks for latest trends,
+ * and fills a panel. Prints what is not so, and then ends with 1.
  */
 #include "humoraki.h"
 
@@ -68,14 +68,20 @@ static uint8_t call_segment(int missing) {
                             SLICE(9, somes), SLICE(10, alls), &lent.count);
 }
 
+/* What Corners and Latest fill. */
+#define CORNERS SLICE(0, ps), SLICE(1, qs), SLICE(2, ds)
+
 static uint8_t call_corners(int missing) {
-    return humoraki_corners(1, EMPTY, EMPTY, EMPTY, SLICE(0, ps), SLICE(1, qs), SLICE(2, ds), &lent.count);
+    return humoraki_corners(1, EMPTY, EMPTY, EMPTY, CORNERS, &lent.count);
 }
 
-/* What Preview sets. */
-#define EFFECT \
-    &lent.kind, &lent.slow_line[0], &lent.slow_line[1], &lent.slow_line[2], \
+/* The numbers of an outlook. */
+#define OUTLOOK \
+    &lent.slow_line[0], &lent.slow_line[1], &lent.slow_line[2], \
     &lent.fast_line[0], &lent.fast_line[1], &lent.fast_line[2], &lent.some, &lent.all
+
+/* What Preview sets. */
+#define EFFECT &lent.kind, OUTLOOK
 
 /* Preview fills no slice, so none can be missing; its kind is told as the count. */
 static uint8_t call_preview(int missing) {
@@ -84,6 +90,13 @@ static uint8_t call_preview(int missing) {
     if (number == 0)
         lent.count = lent.kind;
     return number;
+}
+
+/* What Latest sets. */
+#define TREND &lent.ranges, OUTLOOK, &lent.count
+
+static uint8_t call_latest(int missing) {
+    return humoraki_latest(20, HUMORAKI_RISING, EMPTY, EMPTY, EMPTY, CORNERS, TREND);
 }
 
 static uint8_t call_report(int missing) {
@@ -116,6 +129,7 @@ static const struct {
     {"segment", call_segment, 11, 0, 0},
     {"corners", call_corners, 3, 9, 0},
     {"preview", call_preview, 0, 0, HUMORAKI_BEGINS},
+    {"latest", call_latest, 3, 0, 0},
     {"report", call_report, 1, 0, 10},
     {"add", call_add, 4, 14, 0},
     {"head_ranges", call_head_ranges, 7, 14, 0},
@@ -186,6 +200,11 @@ static uint8_t preview_two(uint32_t direction) {
     return humoraki_preview(10, direction, TWO, 25, 15, 15, EFFECT);
 }
 
+static uint8_t latest_two(uint32_t direction) {
+    int missing = -1;
+    return humoraki_latest(10, direction, TWO, CORNERS, TREND);
+}
+
 /* Both directions: each comes back from its file, and the line reaches the level when it does in that direction, with
    the two ranges and with one range more. */
 static void try_direction(uint32_t direction, size_t count, uint64_t two, uint64_t three) {
@@ -197,6 +216,7 @@ static void try_direction(uint32_t direction, size_t count, uint64_t two, uint64
            "read", "a direction does not come back");
     expect(segment_two(direction) == 0 && lent.somes[0] == two && lent.alls[0] == two, "segment", "another time");
     expect(preview_two(direction) == 0 && lent.some == three && lent.all == three, "preview", "another time");
+    expect(latest_two(direction) == 0 && lent.some == two && lent.all == two, "latest", "another time");
 }
 
 static void try_directions(void) {
@@ -208,26 +228,35 @@ static void try_directions(void) {
         expect(write_two(outside[at]) == 4, "write", "a number that is no direction is not refused with 4");
         expect(segment_two(outside[at]) == 4, "segment", "a number that is no direction is not refused with 4");
         expect(preview_two(outside[at]) == 4, "preview", "a number that is no direction is not refused with 4");
+        expect(latest_two(outside[at]) == 4, "latest", "a number that is no direction is not refused with 4");
     }
     expect(kept(), "segment", "something is changed although the direction is refused");
+}
+
+/* The first so many ranges of the first sample. */
+static const uint32_t sample_times[] = {10, 20, 30, 40, 50};
+static const int32_t sample_lows[] = {0, 4, 10, 9, 9}, sample_highs[] = {4, 8, 14, 11, 12};
+#define SAMPLE(count) sample_times, count, sample_lows, count, sample_highs, count
+
+/* Whether an outlook was set: slow and fast line, and the two times. */
+static void expect_outlook(const char *call, const int64_t outlook[8]) {
+    expect(memcmp(lent.slow_line, outlook, sizeof lent.slow_line) == 0, call, "another slow line");
+    expect(memcmp(lent.fast_line, outlook + 3, sizeof lent.fast_line) == 0, call, "another fast line");
+    expect(lent.some == (uint64_t)outlook[6] && lent.all == (uint64_t)outlook[7], call, "another time");
 }
 
 /* The effect of a range behind those of the first sample: the number, and on success the kind and the outlook. */
 static void try_preview(int32_t level, uint32_t time, int32_t low, int32_t high, uint8_t number, uint32_t kind,
                         const int64_t outlook[8]) {
-    static const uint32_t times[] = {10, 20, 30, 40, 50};
-    static const int32_t lows[] = {0, 4, 10, 9, 9}, highs[] = {4, 8, 14, 11, 12};
     mark();
-    expect(humoraki_preview(level, HUMORAKI_RISING, times, 5, lows, 5, highs, 5, time, low, high, EFFECT) == number,
+    expect(humoraki_preview(level, HUMORAKI_RISING, SAMPLE(5), time, low, high, EFFECT) == number,
            "preview", "another number");
     if (number != 0) {
         expect(kept(), "preview", "something is changed by a refusal");
         return;
     }
     expect(lent.kind == kind, "preview", "another kind");
-    expect(memcmp(lent.slow_line, outlook, sizeof lent.slow_line) == 0, "preview", "another slow line");
-    expect(memcmp(lent.fast_line, outlook + 3, sizeof lent.fast_line) == 0, "preview", "another fast line");
-    expect(lent.some == (uint64_t)outlook[6] && lent.all == (uint64_t)outlook[7], "preview", "another time");
+    expect_outlook("preview", outlook);
 }
 
 static void try_previews(void) {
@@ -238,6 +267,43 @@ static void try_previews(void) {
     try_preview(20, 50, 17, 16, 5, 0, open);
     try_preview(20, 50, INT32_MIN, 16, 4, 0, open);
     try_preview(INT32_MAX, 60, 13, 16, 4, 0, open);
+}
+
+/* The latest trend of the first sample's first ranges: how many of them are in its run, its outlook and its corners. */
+static void try_latest(size_t count, size_t ranges, const int64_t outlook[8], size_t corners,
+                       const int64_t listed[][3]) {
+    int missing = -1;
+    mark();
+    int64_t past = lent.ps[corners];
+    expect(humoraki_latest(20, HUMORAKI_RISING, SAMPLE(count), CORNERS, TREND) == 0, "latest", "another number");
+    expect(lent.ranges == ranges, "latest", "another number of ranges");
+    expect_outlook("latest", outlook);
+    expect(lent.count == corners, "latest", "another number of corners");
+    for (size_t at = 0; at < corners; at++)
+        expect(lent.ps[at] == listed[at][0] && lent.qs[at] == listed[at][1] && lent.ds[at] == listed[at][2],
+               "latest", "another corner");
+    expect(lent.ps[corners] == past && lent.qs[corners] == past && lent.ds[corners] == past,
+           "latest", "an entry past the corners is changed");
+}
+
+/* A run that begins before the last segment does, two ranges, one and none; and what is refused. */
+static void try_latest_trends(void) {
+    static const int64_t open[8] = {0}, five[8] = {-1, 95, 5, 1, 70, 10, 130, (int64_t)HUMORAKI_NONE};
+    static const int64_t two[8] = {0, 4, 1, 4, -40, 5, 35, (int64_t)HUMORAKI_NONE};
+    static const int64_t of_five[][3] = {{-1, 95, 5}, {1, 70, 10}, {-1, 230, 20}};
+    static const int64_t of_two[][3] = {{0, 4, 1}, {2, 0, 5}, {4, -40, 5}, {2, -20, 5}};
+    int missing = -1;
+    try_latest(5, 3, five, 3, of_five);
+    try_latest(2, 2, two, 4, of_two);
+    try_latest(1, 1, open, 0, NULL);
+    try_latest(0, 0, open, 0, NULL);
+    mark();
+    expect(humoraki_latest(INT32_MAX, HUMORAKI_RISING, SAMPLE(5), CORNERS, TREND) == 4, "latest", "another number");
+    expect(humoraki_latest(20, HUMORAKI_RISING, sample_times, 5, sample_highs, 5, sample_lows, 5, CORNERS, TREND) == 5,
+           "latest", "another number");
+    expect(humoraki_latest(20, HUMORAKI_RISING, sample_times, 5, sample_lows, 4, sample_highs, 5, CORNERS, TREND) == 10,
+           "latest", "another number");
+    expect(kept(), "latest", "something is changed by a refusal");
 }
 
 /* Adds a range to the panel; a refusal must leave all that is lent as it was. */
@@ -306,6 +372,7 @@ int main(void) {
     try_addresses();
     try_directions();
     try_previews();
+    try_latest_trends();
     try_panel();
     return failures == 0 ? 0 : 1;
 }

@@ -5,13 +5,14 @@ use crate::unproved;
 use humoraki::Trace;
 use humoraki::lent::{self, Ranges};
 
-#[derive(Clone, Copy)]
+#[derive(Clone, Copy, PartialEq)]
 pub enum Call {
     Segment,
     /// Corners after all ranges.
     Corners,
     /// Preview of the last range behind all others.
     Preview,
+    Latest,
 }
 
 /// The ranges but the last, and the last: all that Corners is handed.
@@ -23,7 +24,8 @@ fn last_apart(ranges: Ranges) -> (Ranges, (u32, i32, i32)) {
 }
 
 impl Call {
-    /// The call of the static library: the count that it sets, 0 for Preview, or the number of a refusal.
+    /// The call of the static library: the count that it sets, of ranges where it is Latest, 0 for Preview, or the number
+    /// of a refusal.
     pub fn proved(self, trace: &Trace, out: &mut Buffers) -> Result<usize, u8> {
         let ranges = trace.ranges();
         let mut count = 0;
@@ -33,6 +35,11 @@ impl Call {
             Call::Preview => {
                 let (others, (time, low, high)) = last_apart(ranges);
                 lent::preview(trace.service(), others, time, low, high, out.effect())?;
+            }
+            Call::Latest => {
+                let (corners, trend) = out.trend();
+                lent::latest(trace.service(), ranges, corners, trend)?;
+                count = out.ranges;
             }
         }
         Ok(count)
@@ -47,6 +54,10 @@ impl Call {
                 let (others, last) = last_apart(ranges);
                 unproved::preview(trace.service(), others, last, out.effect())?;
                 Ok(0)
+            }
+            Call::Latest => {
+                let (corners, trend) = out.trend();
+                unproved::latest(trace.service(), ranges, corners, trend)
             }
         }
     }

@@ -14,7 +14,7 @@ const RANGES: usize = 16_384;
 pub struct Group {
     pub call: Call,
     pub shape: Shape,
-    /// The call's count at the last length: of segments, or of corners; Preview has none.
+    /// The call's count at the last length: of segments, of corners, or of the ranges of a run; Preview has none.
     pub count: usize,
     measures: Vec<Measure>,
 }

@@ -21,10 +21,11 @@ use traces::Shape;
 const ROUNDS: usize = 20;
 
 /// The calls, each on these shapes. Only Segment asks for the direction again and again, once in each segment.
-const MEASURED: [(Call, &[Shape]); 3] = [
+const MEASURED: [(Call, &[Shape]); 4] = [
     (Call::Segment, &[Shape::LongSegment, Shape::ShortSegments, Shape::FallingSegments, Shape::LargeChains]),
     (Call::Corners, &[Shape::LongSegment, Shape::ShortSegments, Shape::LargeChains]),
     (Call::Preview, &[Shape::LongSegment, Shape::ShortSegments, Shape::LargeChains]),
+    (Call::Latest, &[Shape::LongSegment, Shape::ShortSegments, Shape::LargeChains]),
 ];
 
 fn main() {

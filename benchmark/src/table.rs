@@ -15,11 +15,12 @@ Nanoseconds for each range. Proved is the static library, unproved an ordinary R
 both are compiled at -O3 for any x86-64, and gave the same for every trace before either was measured. \
 They take turns, and a time is the least of many calls. At each length the traces have 16,384 ranges in all. \
 The slices to be filled are allocated once and not cleared between calls; \
-the two chains, 4,096 entries each, are on the stack of both programs, and each call sets them to 0. \
+the two chains, 4,096 entries each, are on the stack of both programs, and each call sets them to 0, \
+as Latest does with three lists for the ranges read from the end. \
 Corners is asked after all ranges, and Preview for the last range behind all others. \
-Segments and corners are counted at 4,096 ranges. \
+Segments, corners and the ranges of the latest run are counted at 4,096 ranges. \
 Growth is the time for each range at 4,096 ranges over that at 1,024: 1 is linear. \
-To Corners is the proved time of Preview over that of Corners.";
+To Corners is the proved time of Preview over that of Corners, to Segment that of Latest over that of Segment.";
 
 /// How the time for each range grows from 1,024 to 4,096 ranges: 1 where the time is linear.
 fn growth(numbers: &[f64]) -> f64 {
@@ -53,6 +54,7 @@ fn print_group(group: &Group) {
         Call::Segment => ("Segment", format!("segments: {}", with_comma(group.count))),
         Call::Corners => ("Corners", format!("corners: {}", with_comma(group.count))),
         Call::Preview => ("Preview", String::new()),
+        Call::Latest => ("Latest", format!("ranges of the run: {}", with_comma(group.count))),
     };
     let proved = group.column(|t| t.proved);
     let unproved = group.column(|t| t.unproved);
@@ -64,13 +66,13 @@ fn print_group(group: &Group) {
     print_row(["", "", "ratio"], &ratio, 2, "");
 }
 
-/// The proved times of Preview over those of Corners on the same traces.
-fn print_to_corners(preview: &Group, groups: &[Group]) {
-    let corners = groups.iter().find(|group| matches!(group.call, Call::Corners) && group.shape == preview.shape);
-    let corners = corners.expect("Corners on traces of this shape").column(|t| t.proved);
-    let times = preview.column(|t| t.proved);
-    let ratio: Vec<f64> = times.iter().zip(&corners).map(|(one, other)| one / other).collect();
-    print_row(["", "", "to Corners"], &ratio, 2, "");
+/// The proved times of a call over those of another one on the same traces.
+fn print_to(call: Call, name: &str, group: &Group, groups: &[Group]) {
+    let other = groups.iter().find(|other| other.call == call && other.shape == group.shape);
+    let others = other.expect("the other call on traces of this shape").column(|t| t.proved);
+    let times = group.column(|t| t.proved);
+    let ratio: Vec<f64> = times.iter().zip(&others).map(|(one, other)| one / other).collect();
+    print_row(["", "", name], &ratio, 2, "");
 }
 
 fn largest(numbers: impl Iterator<Item = f64>) -> f64 {
@@ -82,8 +84,10 @@ pub fn print(groups: &[Group]) {
     println!("|---|---|---|--:|--:|--:|--:|--:|--:|");
     for group in groups {
         print_group(group);
-        if matches!(group.call, Call::Preview) {
-            print_to_corners(group, groups);
+        match group.call {
+            Call::Preview => print_to(Call::Corners, "to Corners", group, groups),
+            Call::Latest => print_to(Call::Segment, "to Segment", group, groups),
+            Call::Segment | Call::Corners => {}
         }
     }
     let ratio = largest(groups.iter().flat_map(|g| g.column(Times::ratio)));

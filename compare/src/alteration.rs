@@ -128,6 +128,7 @@ mod tests {
         assert_eq!(of_call("segment").len(), 2 + 3 * 4 + 4 * PLACES);
         assert_eq!(of_call("corners").len(), 2 + 3 * 4 + 4 * 3);
         assert_eq!(of_call("preview").len(), 2 + 3 * 12);
+        assert_eq!(of_call("latest").len(), 2 + 3 * 13 + 4 * 3);
         assert_eq!(of_call("add").len(), 2 + 3 + 4 * 4);
         assert_eq!(of_call("head_ranges").len(), 2 + 3 * 6 + 4 * 3);
     }

@@ -8,6 +8,7 @@ use crate::panel::Panel;
 use crate::report;
 use crate::segments::{Fitter, Segment, Stage, segments, stages};
 use crate::trace::{Lists, Range, Service, Trace};
+use crate::trends::{Finder, Trend};
 use crate::trial;
 use std::borrow::Borrow;
 
@@ -66,6 +67,13 @@ pub fn preview(service: Service, lists: &Lists, range: &Range, fitter: Fitter) -
     let before = segment(service, lists, fitter)?;
     let last = after.last().expect("a segment with the range");
     Ok(Effect { begins: after.len() == before.len() + 1, outlook: last.outlook.clone() })
+}
+
+pub fn latest(service: Service, lists: &Lists, finder: Finder) -> Result<Trend, u8> {
+    trial::lengths(lists)?;
+    trial::service(&service)?;
+    let ranges = trial::ranges(lists)?;
+    Ok(finder(&ranges).trend(&ranges, service))
 }
 
 pub fn report(file: &[u8], fitter: Fitter) -> String {

@@ -13,8 +13,14 @@ pub fn corners(before: &[Line], ranges: &[Range]) -> Vec<Line> {
     if ranges.len() == 2 {
         return from_least_slope(two_strips(earlier, range));
     }
+    cut_by(before, range)
+}
+
+/// The corners that a further range, before all others or after them, leaves of a fit, in corner order; none if no line
+/// fits.
+pub fn cut_by(corners: &[Line], range: &Range) -> Vec<Line> {
     let time = range.time as i128;
-    let kept = cut(before, |line| line.above(range.low as i128, time));
+    let kept = cut(corners, |line| line.above(range.low as i128, time));
     let kept = cut(&kept, |line| -line.above(range.high as i128, time));
     from_least_slope(kept)
 }

@@ -5,13 +5,14 @@ use crate::answers::{self, Effect, borrowed};
 use crate::calls::add::AddCall;
 use crate::calls::corners::CornersCall;
 use crate::calls::head_ranges::HeadRangesCall;
+use crate::calls::latest::LatestCall;
 use crate::calls::preview::PreviewCall;
 use crate::calls::read::ReadCall;
 use crate::calls::report::ReportCall;
 use crate::calls::segment::SegmentCall;
 use crate::calls::write::WriteCall;
 use crate::calls::{Returned, Told, Wrong, uses};
-use crate::difference::Outcome;
+use crate::difference::{Difference, Outcome};
 use crate::line::Line;
 use crate::panel::Panel;
 use crate::random::Random;
@@ -19,6 +20,7 @@ use crate::room::Room;
 use crate::segments::{BY_CLIPPING, Fitter, Segment, segments};
 use crate::tally::{Call, Tally};
 use crate::trace::{Lists, Range, Service, Trace};
+use crate::trends::Trend;
 
 pub struct Desk {
     pub random: Random,
@@ -30,6 +32,7 @@ pub struct Desk {
     segment: SegmentCall,
     corners: CornersCall,
     preview: PreviewCall,
+    latest: LatestCall,
     report: ReportCall,
     add: AddCall,
     head_ranges: HeadRangesCall,
@@ -46,6 +49,7 @@ impl Desk {
             segment: SegmentCall::new(),
             corners: CornersCall::new(),
             preview: PreviewCall::new(),
+            latest: LatestCall::new(),
             report: ReportCall::new(),
             add: AddCall::new(),
             head_ranges: HeadRangesCall::new(),
@@ -97,6 +101,25 @@ impl Desk {
         judged.map_err(|wrong| wrong.in_call(Told::on_lists(call(), lists, 1, service)))
     }
 
+    pub fn latest(&mut self, handed: (Service, &Lists), expected: Result<&Trend, u8>, room: &Room) -> Outcome {
+        let returned = self.latest.call(handed, expected, room, &mut self.random);
+        let judged = judged(returned, &mut self.alteration, &mut self.random, &mut self.tally);
+        let (service, lists) = handed;
+        let call = || format!("Latest, {}, {room}", service.in_words());
+        judged.map_err(|wrong| wrong.in_call(Told::on_lists(call(), lists, 1, service)))
+    }
+
+    /// Latest on these ranges, of which it has to give this trend; how many ranges it said that the run has.
+    pub fn told_latest(
+        &mut self,
+        service: Service,
+        ranges: &[Range],
+        trend: &Trend,
+    ) -> Result<usize, Box<Difference>> {
+        self.latest((service, &Lists::of(ranges)), Ok(trend), &Room::enough())?;
+        Ok(self.latest.told())
+    }
+
     pub fn report(&mut self, file: &[u8], expected: &str, room: &Room) -> Outcome {
         let returned = self.report.call(file, expected, room, &mut self.random);
         let judged = judged(returned, &mut self.alteration, &mut self.random, &mut self.tally);
@@ -146,6 +169,7 @@ impl Desk {
             (Call::Segment, self.segment.lent()),
             (Call::Corners, self.corners.lent()),
             (Call::Preview, self.preview.lent()),
+            (Call::Latest, self.latest.lent()),
             (Call::Report, self.report.lent()),
             (Call::Add, self.add.lent()),
             (Call::HeadRanges, self.head_ranges.lent()),

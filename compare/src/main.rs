@@ -35,6 +35,7 @@ mod stored;
 mod tally;
 mod trace;
 mod traces;
+mod trends;
 mod trial;
 mod trying;
 
@@ -89,6 +90,7 @@ fn compare(seed: u64, traces: usize) -> ExitCode {
 fn all_rounds(desk: &mut Desk, traces: usize) -> Outcome {
     rounds::samples::compare(desk)?;
     rounds::preview_cases::compare(desk)?;
+    rounds::latest_cases::compare(desk)?;
     rounds::small_traces::compare(desk, traces)?;
     rounds::addresses::compare(desk)?;
     rounds::directions::compare(desk)?;

@@ -9,6 +9,7 @@ use crate::line::Line;
 use crate::outlook::Outlook;
 use crate::segments::Segment;
 use crate::trace::{FALLING, Lists, RISING, Range, Service};
+use crate::trends::{Run, Trend};
 
 /// A direction that is none stays, and so does the least number of all, which has no negative and is outside its span.
 pub fn service(service: Service) -> Service {
@@ -50,6 +51,14 @@ pub fn segments(segments: &[Segment]) -> Vec<Segment> {
 
 pub fn effect(effect: &Effect) -> Effect {
     Effect { begins: effect.begins, outlook: outlook(&effect.outlook) }
+}
+
+pub fn runs(runs: &[Run]) -> Vec<Run> {
+    runs.iter().map(|run| Run { ranges: run.ranges, corners: corners(&run.corners) }).collect()
+}
+
+pub fn trend(trend: &Trend) -> Trend {
+    Trend { ranges: trend.ranges, outlook: outlook(&trend.outlook), corners: corners(&trend.corners) }
 }
 
 /// Half a turn of the polygon: the ring goes on the same way round, and begins with what was the fast line.

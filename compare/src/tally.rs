@@ -7,18 +7,20 @@ pub enum Call {
     Segment,
     Corners,
     Preview,
+    Latest,
     Report,
     Add,
     HeadRanges,
 }
 
 /// The calls by name, with the answers that the scope has for each; 0 is accepted.
-const CALLS: [(Call, &str, &[usize]); 8] = [
+const CALLS: [(Call, &str, &[usize]); 9] = [
     (Call::Read, "Read", &[0, 1, 2, 3, 4, 5, 6, 7, 8]),
     (Call::Write, "Write", &[0, 4, 5, 6, 7, 8, 10]),
     (Call::Segment, "Segment", &[0, 4, 5, 6, 7, 8, 10]),
     (Call::Corners, "Corners", &[0, 4, 5, 6, 7, 8, 9, 10]),
     (Call::Preview, "Preview", &[0, 4, 5, 6, 7, 10]),
+    (Call::Latest, "Latest", &[0, 4, 5, 6, 7, 8, 10]),
     (Call::Report, "report", &[0, 8]),
     (Call::Add, "Add", &[0, 4, 5, 6, 8, 12, 13, 14]),
     (Call::HeadRanges, "Head ranges", &[0, 8, 12, 14]),

@@ -59,6 +59,21 @@ macro_rules! declare {
                 some: *mut u64, all: *mut u64,
             ) -> u8;
 
+            pub fn humoraki_latest(
+                level: i32, direction: u32,
+                times: *const u32, times_len: usize,
+                lows: *const i32, lows_len: usize,
+                highs: *const i32, highs_len: usize,
+                ps: *mut i64, ps_len: usize,
+                qs: *mut i64, qs_len: usize,
+                ds: *mut i64, ds_len: usize,
+                ranges: *mut usize,
+                slow_p: *mut i64, slow_q: *mut i64, slow_d: *mut i64,
+                fast_p: *mut i64, fast_q: *mut i64, fast_d: *mut i64,
+                some: *mut u64, all: *mut u64,
+                corners: *mut usize,
+            ) -> u8;
+
             pub fn humoraki_report(
                 file: *const u8, file_len: usize,
                 text: *mut u8, text_len: usize,

@@ -5,8 +5,8 @@
 //! A panel is both read and changed, by `add`.
 
 use super::declarations::{
-    humoraki_add, humoraki_corners, humoraki_head_ranges, humoraki_preview, humoraki_read, humoraki_report,
-    humoraki_segment, humoraki_write,
+    humoraki_add, humoraki_corners, humoraki_head_ranges, humoraki_latest, humoraki_preview, humoraki_read,
+    humoraki_report, humoraki_segment, humoraki_write,
 };
 use super::{Entry, SEGMENT_ROOM};
 
@@ -53,6 +53,21 @@ pub struct EffectMut<'a> {
     pub fast_d: &'a mut i64,
     pub some: &'a mut u64,
     pub all: &'a mut u64,
+}
+
+/// The numbers of a latest trend, to be set: how many ranges its run has, the lines and times of its outlook, with 0 in
+/// all eight where it is open, and how many corners its fit has.
+pub struct TrendMut<'a> {
+    pub ranges: &'a mut usize,
+    pub slow_p: &'a mut i64,
+    pub slow_q: &'a mut i64,
+    pub slow_d: &'a mut i64,
+    pub fast_p: &'a mut i64,
+    pub fast_q: &'a mut i64,
+    pub fast_d: &'a mut i64,
+    pub some: &'a mut u64,
+    pub all: &'a mut u64,
+    pub corners: &'a mut usize,
 }
 
 /// A panel to be read: one entry for each head, and the four lists with the ranges of all of them.
@@ -132,6 +147,17 @@ pub fn preview(
     call!(humoraki_preview(
         level, direction; ranges.times, ranges.lows, ranges.highs; ; ;
         time, low, high, kind, slow_p, slow_q, slow_d, fast_p, fast_q, fast_d, some, all
+    ))
+}
+
+/// Fills three slices with the corners of the longest run at the end that some line fits, and sets the numbers of this
+/// trend.
+pub fn latest(service: Service, ranges: Ranges, corners: Lines, trend: TrendMut) -> Result<(), u8> {
+    let Service { level, direction } = service;
+    let TrendMut { ranges: run, slow_p, slow_q, slow_d, fast_p, fast_q, fast_d, some, all, corners: count } = trend;
+    call!(humoraki_latest(
+        level, direction; ranges.times, ranges.lows, ranges.highs; ; corners.ps, corners.qs, corners.ds;
+        run, slow_p, slow_q, slow_d, fast_p, fast_q, fast_d, some, all, count
     ))
 }
 

@@ -20,7 +20,7 @@ pub mod panel;
 #[cfg(test)]
 mod tests;
 
-use self::lent::{EffectMut, Lines, Ranges, RangesMut, RecordMut, Service, Table};
+use self::lent::{EffectMut, Lines, Ranges, RangesMut, RecordMut, Service, Table, TrendMut};
 
 /// The least length of each list that `lent::read` fills.
 pub const READ_ROOM: usize = 4096;
@@ -31,7 +31,7 @@ pub const WRITE_ROOM: usize = 61_456;
 /// The least length of each column that `lent::segment` fills.
 pub const SEGMENT_ROOM: usize = 2048;
 
-/// The least length of each slice that `lent::corners` fills.
+/// The least length of each slice that `lent::corners` and `lent::latest` fill.
 pub const CORNER_ROOM: usize = 8192;
 
 /// The least length of the text that `lent::report` fills: 256 bytes for each of 2,049 lines.
@@ -43,7 +43,8 @@ pub const PANEL_ROOM: usize = 4096;
 /// The largest number of entries, one for each head, that a panel may have.
 pub const MOST_HEADS: usize = 64;
 
-/// Stands for a time that there is not, in the columns `somes` and `alls`, and in `some` and `all` of `lent::preview`.
+/// Stands for a time that there is not, in the columns `somes` and `alls`, and in `some` and `all` of `lent::preview`
+/// and `lent::latest`.
 pub const NONE: u64 = 4_294_967_296;
 
 /// The number of the direction of a head whose signal dust raises, in `lent::Service` and `lent::RecordMut`.
@@ -130,6 +131,16 @@ pub enum Effect {
     Begins(Outlook),
 }
 
+/// The latest trend: the longest run at the end of a trace that some line fits. It has the last ranges, as many as told
+/// here; `corners` are those of its fit, in corner order. A run of one range is open and has none, as has that of a
+/// trace without ranges.
+#[derive(Clone, Debug, PartialEq, Eq)]
+pub struct Trend {
+    pub ranges: usize,
+    pub outlook: Outlook,
+    pub corners: Vec<Line>,
+}
+
 /// A head on a panel, as `humoraki.h` has it: its address, 1 to 65,535, and how many ranges it holds.
 #[repr(C)]
 #[derive(Clone, Copy, Debug, PartialEq, Eq)]
@@ -205,7 +216,7 @@ pub fn corners(trace: &Trace, k: usize) -> Result<Vec<Line>, u8> {
     let [mut ps, mut qs, mut ds] = [(); 3].map(|()| vec![0; CORNER_ROOM]);
     let mut count = 0;
     lent::corners(k, trace.ranges(), Lines { ps: &mut ps, qs: &mut qs, ds: &mut ds }, &mut count)?;
-    Ok((0..count).map(|place| Line { p: ps[place], q: qs[place], d: ds[place] }).collect())
+    Ok(lines_of(&ps, &qs, &ds, count))
 }
 
 /// The effect of a range before it is added to a trace: what `segment` tells of a copy with the range behind it.
@@ -226,6 +237,28 @@ pub fn preview(trace: &Trace, time: u32, low: i32, high: i32) -> Result<Effect, 
     lent::preview(trace.service(), trace.ranges(), time, low, high, effect)?;
     let outlook = outlook_of(kind == BEGINS, slow, fast, some, all);
     Ok(if kind == JOINS { Effect::Joins(outlook) } else { Effect::Begins(outlook) })
+}
+
+/// The latest trend of a trace.
+pub fn latest(trace: &Trace) -> Result<Trend, u8> {
+    let [mut ps, mut qs, mut ds] = [(); 3].map(|()| vec![0; CORNER_ROOM]);
+    let [mut slow, mut fast] = [Line { p: 0, q: 0, d: 0 }; 2];
+    let (mut ranges, mut some, mut all, mut count) = (0, 0, 0, 0);
+    let trend = TrendMut {
+        ranges: &mut ranges,
+        slow_p: &mut slow.p,
+        slow_q: &mut slow.q,
+        slow_d: &mut slow.d,
+        fast_p: &mut fast.p,
+        fast_q: &mut fast.q,
+        fast_d: &mut fast.d,
+        some: &mut some,
+        all: &mut all,
+        corners: &mut count,
+    };
+    lent::latest(trace.service(), trace.ranges(), Lines { ps: &mut ps, qs: &mut qs, ds: &mut ds }, trend)?;
+    let outlook = outlook_of(count == 0, slow, fast, some, all);
+    Ok(Trend { ranges, outlook, corners: lines_of(&ps, &qs, &ds, count) })
 }
 
 /// The text of a file's report. A file that is turned down has one too.
@@ -250,6 +283,11 @@ fn outlook_at(table: &Table, place: usize) -> Outlook {
     let slow = Line { p: table.slow_ps[place], q: table.slow_qs[place], d: table.slow_ds[place] };
     let fast = Line { p: table.fast_ps[place], q: table.fast_qs[place], d: table.fast_ds[place] };
     outlook_of(table.counts[place] == 1, slow, fast, table.somes[place], table.alls[place])
+}
+
+/// The first so many lines of three slices.
+fn lines_of(ps: &[i64], qs: &[i64], ds: &[i64], count: usize) -> Vec<Line> {
+    (0..count).map(|place| Line { p: ps[place], q: qs[place], d: ds[place] }).collect()
 }
 
 fn outlook_of(open: bool, slow: Line, fast: Line, some: u64, all: u64) -> Outlook {

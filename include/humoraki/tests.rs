@@ -1,7 +1,8 @@
 //! The calls, on a trace whose answers are known.
 
 use super::declarations::{
-    humoraki_corners, humoraki_preview, humoraki_read, humoraki_report, humoraki_segment, humoraki_write,
+    humoraki_corners, humoraki_latest, humoraki_preview, humoraki_read, humoraki_report, humoraki_segment,
+    humoraki_write,
 };
 use super::lent::Columns;
 use super::*;
@@ -90,13 +91,16 @@ fn a_direction_stands_directly_after_the_level() {
 fn a_direction_is_refused_and_not_cut() {
     let (trace, mut file, mut count) = (example(), vec![77; WRITE_ROOM], 77);
     let (mut table, mut numbers) = (Table::holding(77), (77, [77; 6], [77; 2]));
+    let (mut corners, mut trend) = (some_corners(), TOLD);
     for direction in [2, 256, 65_537, u32::MAX] {
         let service = service(direction);
         assert_eq!(lent::write(7, service, trace.ranges(), &mut file, &mut count), Err(4));
         assert_eq!(lent::segment(service, trace.ranges(), table.columns(), &mut count), Err(4));
         assert_eq!(lent::preview(service, trace.ranges(), 60, 13, 16, effect_of(&mut numbers)), Err(4));
+        assert_eq!(lent::latest(service, trace.ranges(), lines_in(&mut corners), trend_of(&mut trend)), Err(4));
     }
     assert_eq!((file, count, table, numbers), (vec![77; WRITE_ROOM], 77, Table::holding(77), (77, [77; 6], [77; 2])));
+    assert_eq!((corners, trend), (some_corners(), TOLD));
 }
 
 /// The address field of the file that Write makes.
@@ -217,14 +221,19 @@ fn one_range_is_open() {
     assert_eq!(segment(&trace).unwrap()[0].outlook, Outlook::Open);
 }
 
+/// The first so many ranges of a trace.
+fn start_of(trace: Trace, count: usize) -> Trace {
+    let Trace { mut times, mut lows, mut highs, .. } = trace;
+    times.truncate(count);
+    lows.truncate(count);
+    highs.truncate(count);
+    Trace { times, lows, highs, ..trace }
+}
+
 /// The example's ranges up to a count, and the effect of the next.
 fn effect_after(count: usize) -> Result<Effect, u8> {
     let Trace { times, lows, highs, .. } = example();
-    let mut trace = example();
-    trace.times.truncate(count);
-    trace.lows.truncate(count);
-    trace.highs.truncate(count);
-    preview(&trace, times[count], lows[count], highs[count])
+    preview(&start_of(example(), count), times[count], lows[count], highs[count])
 }
 
 #[test]
@@ -270,6 +279,84 @@ fn a_full_list_comes_before_level_and_range() {
     }
     trace.lows.push(0);
     assert_eq!(preview(&trace, 0, 1, 0), Err(10));
+}
+
+#[test]
+fn a_latest_trend_begins_before_the_last_segment() {
+    let outlook = Outlook::Lines { slow: line(-1, 95, 5), fast: line(1, 70, 10), some: Some(130), all: None };
+    let corners = vec![line(-1, 95, 5), line(1, 70, 10), line(-1, 230, 20)];
+    assert_eq!(latest(&example()), Ok(Trend { ranges: 3, outlook, corners }));
+    assert_eq!(segment(&example()).map(|segments| segments[1].ranges), Ok(2));
+}
+
+#[test]
+fn a_latest_trend_of_a_falling_trace() {
+    let outlook = Outlook::Lines { slow: line(-1, 330, 10), fast: line(1, 105, 5), some: Some(130), all: None };
+    let corners = vec![line(-1, 330, 10), line(1, 570, 20), line(1, 105, 5)];
+    assert_eq!(latest(&beam()), Ok(Trend { ranges: 3, outlook, corners }));
+}
+
+#[test]
+fn a_latest_trend_may_be_the_whole_trace() {
+    let trend = latest(&start_of(example(), 3)).unwrap();
+    assert_eq!((trend.ranges, trend.outlook), (3, segment(&example()).unwrap()[0].outlook));
+    assert_eq!(Ok(trend.corners), corners(&example(), 3));
+}
+
+#[test]
+fn a_latest_trend_of_one_range_or_none_is_open() {
+    for count in [0, 1] {
+        let open = Trend { ranges: count, outlook: Outlook::Open, corners: vec![] };
+        assert_eq!(latest(&start_of(example(), count)), Ok(open));
+    }
+}
+
+#[test]
+fn a_trace_is_cut_from_its_end_into_as_many_runs() {
+    for trace in [example(), beam()] {
+        let mut rest = trace.times.len();
+        let mut runs = Vec::new();
+        while rest > 0 {
+            runs.push(latest(&start_of(trace.clone(), rest)).unwrap().ranges);
+            rest -= runs[runs.len() - 1];
+        }
+        assert_eq!((runs, segment(&trace).map(|segments| segments.len())), (vec![3, 2], Ok(2)));
+    }
+}
+
+#[test]
+fn a_latest_trend_is_refused_as_segments_are() {
+    let mut trace = example();
+    trace.times[4] = 40;
+    assert_eq!((latest(&trace), segment(&trace)), (Err(6), Err(6)));
+    trace.highs[2] = 9;
+    assert_eq!((latest(&trace), segment(&trace)), (Err(5), Err(5)));
+    trace.lows[2] = i32::MIN;
+    assert_eq!((latest(&trace), segment(&trace)), (Err(4), Err(4)));
+    trace.times.resize(4097, 0);
+    assert_eq!((latest(&trace), segment(&trace)), (Err(10), Err(10)));
+    trace.lows.resize(4097, 0);
+    trace.highs.resize(4097, 0);
+    assert_eq!((latest(&trace), segment(&trace)), (Err(7), Err(7)));
+}
+
+#[test]
+fn a_slice_for_corners_that_is_too_short_changes_nothing() {
+    for place in 0..3 {
+        let (mut corners, mut trend) = (some_corners(), TOLD);
+        corners[place].pop();
+        let before = corners.clone();
+        let told = lent::latest(service(2), example().ranges(), lines_in(&mut corners), trend_of(&mut trend));
+        assert_eq!((told, corners, trend), (Err(8), before, TOLD));
+    }
+}
+
+#[test]
+fn corners_past_the_count_hold_what_they_held() {
+    let (mut corners, mut trend) = (some_corners(), TOLD);
+    let told = lent::latest(service(RISING), example().ranges(), lines_in(&mut corners), trend_of(&mut trend));
+    assert_eq!((told, trend), (Ok(()), ([3, 3], [-1, 95, 5, 1, 70, 10], [130, NONE])));
+    assert_eq!(corners.map(|list| list[2..5].to_vec()), [[-1, 77, 77], [230, 77, 77], [20, 77, 77]]);
 }
 
 #[test]
@@ -397,6 +484,47 @@ fn preview_takes_null_slices() {
     assert_eq!(numbers, (77, [77; 6], [77; 2]));
     assert_eq!(preview_without(13, &mut numbers), 0);
     assert_eq!(numbers, (BEGINS, [0; 6], [0; 2]));
+}
+
+/// What is told of a latest trend: how many ranges and corners it has, its lines and its times.
+type Told = ([usize; 2], [i64; 6], [u64; 2]);
+
+/// All of it before a call sets it.
+const TOLD: Told = ([77; 2], [77; 6], [77; 2]);
+
+fn trend_of((counts, lines, times): &mut Told) -> TrendMut<'_> {
+    let [ranges, corners] = counts.each_mut();
+    let [slow_p, slow_q, slow_d, fast_p, fast_q, fast_d] = lines.each_mut();
+    let [some, all] = times.each_mut();
+    TrendMut { ranges, slow_p, slow_q, slow_d, fast_p, fast_q, fast_d, some, all, corners }
+}
+
+/// Slices of the least length for the corners of a trend.
+fn some_corners() -> [Vec<i64>; 3] {
+    [(); 3].map(|()| vec![77; CORNER_ROOM])
+}
+
+fn lines_in([ps, qs, ds]: &mut [Vec<i64>; 3]) -> Lines<'_> {
+    Lines { ps, qs, ds }
+}
+
+/// The number of Latest on null lists.
+fn latest_without(missing: &str, [ps, qs, ds]: &mut [Vec<i64>; 3], told: &mut Told) -> u8 {
+    let TrendMut { ranges, slow_p, slow_q, slow_d, fast_p, fast_q, fast_d, some, all, corners } = trend_of(told);
+    call_without!(missing, humoraki_latest(
+        20, RISING; u32, i32, i32; ps, qs, ds;
+        ranges, slow_p, slow_q, slow_d, fast_p, fast_q, fast_d, some, all, corners
+    ))
+}
+
+#[test]
+fn latest_takes_null_slices() {
+    let (mut corners, mut trend) = (some_corners(), TOLD);
+    for missing in ["ps", "qs", "ds"] {
+        assert_eq!((latest_without(missing, &mut corners, &mut trend), trend), (8, TOLD));
+    }
+    assert_eq!(latest_without("nothing", &mut corners, &mut trend), 0);
+    assert_eq!((corners, trend), (some_corners(), ([0; 2], [0; 6], [0; 2])));
 }
 
 #[test]

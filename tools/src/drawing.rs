@@ -1,9 +1,10 @@
 //! The picture of a trace: its ranges, its segments with their slow and fast lines, the service
-//! level, and for the last segments how the fitting lines go on until they reach the level.
+//! level, and for the last segments how the fitting lines go on until they reach the level; the
+//! latest trend in the same manner, if it is asked for.
 
 use crate::axes::{Axes, Frame, ticks, widened};
 use crate::lines::{Lines, Range};
-use crate::report_text::{Line, Outlook, Segment};
+use crate::report_text::{Kind, Line, Outlook, Run};
 use crate::svg::{Pen, Point, Shapes, Side};
 
 const WIDTH: f64 = 960.0;
@@ -15,14 +16,15 @@ const FIRST_ROW: f64 = FRAME.bottom + 52.0;
 const ROW: f64 = 26.0;
 const LEGEND: f64 = 60.0;
 
-/// So many outlooks are drawn, the last ones; more would hide each other.
+/// So many segments have their outlooks drawn, the last ones; more would hide each other.
 const OUTLOOKS: usize = 2;
 
 /// The view goes on after the trace, for this share of the trace's length at least and at most.
 const NEAREST: f64 = 0.25;
 const FARTHEST: f64 = 3.0;
 
-/// Colours that colour-blind readers tell apart; the segments take them by turns.
+/// Colours that colour-blind readers tell apart; the segments take them by turns, and the latest
+/// trend has the ink's.
 const COLOURS: [&str; 4] = ["#0072b2", "#b35900", "#007a5a", "#a3417c"];
 const INK: &str = "#24292f";
 const FAINT: &str = "#e4e8ec";
@@ -49,16 +51,17 @@ struct Drawing {
     shapes: Shapes,
 }
 
-/// A segment whose outlook is drawn, and the height of its row.
+/// A run whose outlook is drawn, and the height of its row.
 struct Shown<'a> {
     y: f64,
-    segment: &'a Segment,
+    run: &'a Run,
     outlook: &'a Outlook,
 }
 
-/// The picture of a trace that has ranges, from the segments of its report.
-pub fn picture(trace: &Lines, segments: &[Segment]) -> String {
-    let shown = last_outlooks(segments);
+/// The picture of a trace that has ranges, from the segments of its report, and with its latest
+/// trend if that is given.
+pub fn picture(trace: &Lines, segments: &[Run], latest: Option<&Run>) -> String {
+    let shown = last_outlooks(segments, latest);
     let axes = axes_of(trace, &shown);
     let mut drawing = Drawing {
         bar: bar_width(&axes, &trace.ranges),
@@ -68,12 +71,13 @@ pub fn picture(trace: &Lines, segments: &[Segment]) -> String {
         shapes: Shapes::default(),
     };
     drawing.bands(segments);
+    latest.into_iter().for_each(|run| drawing.strip(run));
     drawing.drops(&shown);
     drawing.time_axis();
     drawing.signal_axis();
     drawing.fans(&shown);
     drawing.level_line(trace.level);
-    drawing.lines(segments);
+    drawing.lines(segments.iter().chain(latest));
     drawing.ranges(&trace.ranges);
     drawing.rows(&shown);
     let below = FIRST_ROW + ROW * shown.len() as f64;
@@ -84,12 +88,13 @@ pub fn picture(trace: &Lines, segments: &[Segment]) -> String {
     drawing.shapes.picture(WIDTH, below + LEGEND, &title)
 }
 
-fn last_outlooks(segments: &[Segment]) -> Vec<Shown<'_>> {
-    let outlooks: Vec<(&Segment, &Outlook)> =
-        segments.iter().filter_map(|segment| Some((segment, segment.outlook.as_ref()?))).collect();
+/// Those of the last segments, and of the latest trend; what is open has none.
+fn last_outlooks<'a>(segments: &'a [Run], latest: Option<&'a Run>) -> Vec<Shown<'a>> {
+    let with_outlook = |run: &'a Run| Some((run, run.outlook.as_ref()?));
+    let outlooks: Vec<(&Run, &Outlook)> = segments.iter().filter_map(with_outlook).collect();
     let first = outlooks.len().saturating_sub(OUTLOOKS);
-    let rows = outlooks[first..].iter().zip(0..);
-    rows.map(|(&(segment, outlook), row)| Shown { y: FIRST_ROW + ROW * f64::from(row), segment, outlook }).collect()
+    let rows = outlooks[first..].iter().copied().chain(latest.and_then(with_outlook)).zip(0..);
+    rows.map(|((run, outlook), row)| Shown { y: FIRST_ROW + ROW * f64::from(row), run, outlook }).collect()
 }
 
 fn axes_of(trace: &Lines, shown: &[Shown]) -> Axes {
@@ -124,12 +129,18 @@ fn span(numbers: impl Iterator<Item = f64>) -> (f64, f64) {
     numbers.fold(start, |(least, greatest), number| (least.min(number), greatest.max(number)))
 }
 
-fn name(segment: &Segment) -> String {
-    format!("segment {}", segment.place)
+fn name(run: &Run) -> String {
+    match run.kind {
+        Kind::Segment(place) => format!("segment {place}"),
+        Kind::Latest => "latest".to_string(),
+    }
 }
 
-fn colour(segment: &Segment) -> &'static str {
-    COLOURS[(segment.place + COLOURS.len() - 1) % COLOURS.len()]
+fn colour(run: &Run) -> &'static str {
+    match run.kind {
+        Kind::Segment(place) => COLOURS[(place + COLOURS.len() - 1) % COLOURS.len()],
+        Kind::Latest => INK,
+    }
 }
 
 fn value(line: Line, time: f64) -> f64 {
@@ -154,11 +165,16 @@ impl Drawing {
         x.map_or(FRAME.right, |x| x.min(FRAME.right))
     }
 
+    /// Where a run begins and ends, with the caps of its ranges.
+    fn edges(&self, run: &Run) -> (f64, f64) {
+        let cap = CAP * self.bar;
+        (self.axes.x(f64::from(run.times.0)) - cap, self.axes.x(f64::from(run.times.1)) + cap)
+    }
+
     /// A tinted band for each segment, with its name above if there is room.
-    fn bands(&mut self, segments: &[Segment]) {
+    fn bands(&mut self, segments: &[Run]) {
         for segment in segments {
-            let left = self.axes.x(f64::from(segment.times.0)) - CAP * self.bar;
-            let right = self.axes.x(f64::from(segment.times.1)) + CAP * self.bar;
+            let (left, right) = self.edges(segment);
             let corners = ((left, FRAME.top), (right, FRAME.bottom));
             self.shapes.block(corners, colour(segment), 0.09);
             let name = name(segment);
@@ -169,13 +185,21 @@ impl Drawing {
         }
     }
 
+    /// A strip above the names of the segments, with its own name where the trace has ended.
+    fn strip(&mut self, run: &Run) {
+        let (left, right) = self.edges(run);
+        let y = FRAME.top - 30.0;
+        self.shapes.block(((left, y - 2.0), (right, y + 2.0)), colour(run), 1.0);
+        self.shapes.text((right + GAP, y), Side::Right, colour(run), &name(run));
+    }
+
     /// A dotted stroke from the level down to its row, for each time in the view.
     fn drops(&mut self, shown: &[Shown]) {
         let level = self.axes.y(self.level);
-        for Shown { y, segment, outlook } in shown {
+        for Shown { y, run, outlook } in shown {
             for x in [outlook.some, outlook.all].map(|time| self.end(time)) {
                 if x < FRAME.right {
-                    let dots = pen(colour(segment), 1.3, DOTTED);
+                    let dots = pen(colour(run), 1.3, DOTTED);
                     self.shapes.stroke((x, level), (x, *y), dots);
                 }
             }
@@ -206,20 +230,20 @@ impl Drawing {
         self.shapes.text((x, FRAME.top - 14.0), Side::Left, INK, "signal");
     }
 
-    /// Where the fitting lines go on after a segment, as long as they have not reached the level.
+    /// Where the fitting lines go on after a run, as long as they have not reached the level.
     fn fans(&mut self, shown: &[Shown]) {
-        for Shown { segment, outlook, .. } in shown {
+        for Shown { run, outlook, .. } in shown {
             let Outlook { slow, fast, .. } = **outlook;
-            let last = f64::from(segment.times.1);
+            let last = f64::from(run.times.1);
             let (slow_end, fast_end) = (self.leaves(slow, last), self.leaves(fast, last));
             let mut times = [last, slow_end, fast_end, self.axes.times.1];
             times.sort_by(f64::total_cmp);
             let edge = |line| times.map(|time| self.at(time, self.shown_value(line, time)));
             let mut corners = edge(slow).to_vec();
             corners.extend(edge(fast).into_iter().rev());
-            self.shapes.area(&corners, colour(segment), 0.16);
-            self.line(slow, (last, slow_end), pen(colour(segment), 1.3, DASHED));
-            self.line(fast, (last, fast_end), pen(colour(segment), 1.3, WHOLE));
+            self.shapes.area(&corners, colour(run), 0.16);
+            self.line(slow, (last, slow_end), pen(colour(run), 1.3, DASHED));
+            self.line(fast, (last, fast_end), pen(colour(run), 1.3, WHOLE));
         }
     }
 
@@ -269,13 +293,13 @@ impl Drawing {
         self.shapes.text(beside, Side::Right, LEVEL, &format!("level {level}"));
     }
 
-    /// The slow and the fast line of each segment, from its first range to its last.
-    fn lines(&mut self, segments: &[Segment]) {
-        for segment in segments {
-            let times = (f64::from(segment.times.0), f64::from(segment.times.1));
-            if let Some(Outlook { slow, fast, .. }) = segment.outlook {
-                self.line(slow, times, pen(colour(segment), 2.2, DASHED));
-                self.line(fast, times, pen(colour(segment), 2.2, WHOLE));
+    /// The slow and the fast line of each run, from its first range to its last.
+    fn lines<'a>(&mut self, runs: impl Iterator<Item = &'a Run>) {
+        for run in runs {
+            let times = (f64::from(run.times.0), f64::from(run.times.1));
+            if let Some(Outlook { slow, fast, .. }) = run.outlook {
+                self.line(slow, times, pen(colour(run), 2.2, DASHED));
+                self.line(fast, times, pen(colour(run), 2.2, WHOLE));
             }
         }
     }
@@ -290,10 +314,10 @@ impl Drawing {
 
     /// A row for each outlook, with the service window from *some* to *all*.
     fn rows(&mut self, shown: &[Shown]) {
-        for Shown { y, segment, outlook } in shown {
+        for Shown { y, run, outlook } in shown {
             let beside = (FRAME.left - GAP, *y);
-            let colour = colour(segment);
-            self.shapes.text(beside, Side::Left, colour, &name(segment));
+            let colour = colour(run);
+            self.shapes.text(beside, Side::Left, colour, &name(run));
             self.window(*y, outlook, colour);
         }
     }

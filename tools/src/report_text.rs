@@ -1,4 +1,5 @@
-//! Reads a report's text: what the report program prints of a trace.
+//! Reads a report's text: what the report program prints of a trace. And a latest trend's, which has the words of a
+//! segment's line.
 
 /// A line: its value at t is (p * t + q) / d.
 #[derive(Clone, Copy)]
@@ -17,17 +18,24 @@ pub struct Outlook {
     pub all: Option<u32>,
 }
 
-/// A segment: its place from 1, its first and last time, its number of ranges, and its outlook
-/// unless it is open.
-pub struct Segment {
-    pub place: usize,
+/// What a run of ranges is: a segment, by its place from 1, or the latest trend.
+#[derive(Clone, Copy)]
+pub enum Kind {
+    Segment(usize),
+    Latest,
+}
+
+/// A run of ranges: its first and last time, its number of ranges, and its outlook unless it is
+/// open.
+pub struct Run {
+    pub kind: Kind,
     pub times: (u32, u32),
     pub ranges: usize,
     pub outlook: Option<Outlook>,
 }
 
 /// The segments of a report, or the first line that is none of a trace's report.
-pub fn parse(text: &str) -> Result<Vec<Segment>, String> {
+pub fn parse(text: &str) -> Result<Vec<Run>, String> {
     let mut lines = text.lines();
     let first = lines.next().unwrap_or_default();
     if !first.starts_with("detector ") {
@@ -36,13 +44,28 @@ pub fn parse(text: &str) -> Result<Vec<Segment>, String> {
     lines.map(|line| segment(line).ok_or_else(|| format!("expected a segment, found '{line}'"))).collect()
 }
 
-fn segment(line: &str) -> Option<Segment> {
-    let words: Vec<&str> = line.split(' ').collect();
-    let ["segment", place, "from", first, "to", last, "ranges", ranges, rest @ ..] = &words[..] else {
+/// The latest trend of a trace, or the text that is none.
+pub fn parse_latest(text: &str) -> Result<Run, String> {
+    let line = text.trim_end();
+    latest(line).ok_or_else(|| format!("expected a latest trend, found '{line}'"))
+}
+
+fn segment(line: &str) -> Option<Run> {
+    let (place, rest) = line.strip_prefix("segment ")?.split_once(' ')?;
+    run(Kind::Segment(place.parse().ok()?), rest)
+}
+
+fn latest(line: &str) -> Option<Run> {
+    run(Kind::Latest, line.strip_prefix("latest ")?)
+}
+
+fn run(kind: Kind, told: &str) -> Option<Run> {
+    let words: Vec<&str> = told.split(' ').collect();
+    let ["from", first, "to", last, "ranges", ranges, rest @ ..] = &words[..] else {
         return None;
     };
-    Some(Segment {
-        place: place.parse().ok()?,
+    Some(Run {
+        kind,
         times: (first.parse().ok()?, last.parse().ok()?),
         ranges: ranges.parse().ok()?,
         outlook: match rest {

@@ -1,23 +1,27 @@
-//! Makes a trace file from lines of text, and lines from a trace file.
+//! Makes a trace file from lines of text, and lines from a trace file; tells its latest trend.
 //!
 //!     trace-tool make < LINES > FILE
 //!     trace-tool show < FILE > LINES
+//!     trace-tool latest < FILE > LATEST
 //!
-//! The file itself is written and read by the proved library.
+//! The file itself is written and read by the proved library, which finds the trend too.
 
 use std::ffi::OsStr;
 use std::io::{self, Read, Write};
 use std::process::ExitCode;
 
 mod lines;
+mod trend_text;
 
 use humoraki::{Direction, Trace};
 use lines::{FALLING, Lines};
 
 const USAGE: &str = "usage: trace-tool make < LINES > FILE
        trace-tool show < FILE > LINES
+       trace-tool latest < FILE > LATEST
 LINES: first 'detector ADDRESS level LEVEL', then 'falling' if dust lowers the signal, then
-       'time low high' for each range; blank lines do not count, nor does what follows a '#'";
+       'time low high' for each range; blank lines do not count, nor does what follows a '#'
+LATEST: the longest run at the end that some line fits, in the words of a report";
 
 /// The report program reads this much of a file; later bytes cannot matter.
 const MOST_BYTES: u64 = 65_536;
@@ -28,6 +32,7 @@ fn main() -> ExitCode {
     let made = match command.as_deref().and_then(OsStr::to_str) {
         Some("make") => make(),
         Some("show") => show(),
+        Some("latest") => latest(),
         _ => {
             eprintln!("{USAGE}");
             return ExitCode::from(2);
@@ -54,10 +59,21 @@ fn make() -> Result<Vec<u8>, String> {
 
 /// The lines of the trace file on standard input.
 fn show() -> Result<Vec<u8>, String> {
+    Ok(text_of(&read()?).into_bytes())
+}
+
+/// The latest trend of the trace file on standard input.
+fn latest() -> Result<Vec<u8>, String> {
+    let trace = read()?;
+    let trend = humoraki::latest(&trace).map_err(refused)?;
+    Ok(trend_text::text_of(&trace, &trend).into_bytes())
+}
+
+/// The trace of the file on standard input.
+fn read() -> Result<Trace, String> {
     let mut file = Vec::new();
     io::stdin().take(MOST_BYTES).read_to_end(&mut file).map_err(|error| format!("standard input: {error}"))?;
-    let trace = humoraki::read(&file).map_err(refused)?;
-    Ok(text_of(&trace).into_bytes())
+    humoraki::read(&file).map_err(refused)
 }
 
 fn send(bytes: &[u8]) -> Result<(), String> {

@@ -1,6 +1,7 @@
-//! The unproved program: Segment, Corners, Preview and the calls on a panel by the algorithm of the proved one, in
-//! ordinary safe Rust.
+//! The unproved program: Segment, Corners, Preview, Latest and the calls on a panel by the algorithm of the proved one,
+//! in ordinary safe Rust.
 
+mod backward;
 mod chains;
 mod corner_list;
 mod ends;
@@ -14,7 +15,7 @@ mod trial;
 
 use chains::Chains;
 use ends::{Bar, Ends};
-use humoraki::lent::{Columns, EffectMut, Lines, Panel, PanelMut, Ranges, RangesMut, Service};
+use humoraki::lent::{Columns, EffectMut, Lines, Panel, PanelMut, Ranges, RangesMut, Service, TrendMut};
 use outlook::Outlook;
 use rows::Segment;
 
@@ -73,6 +74,27 @@ pub fn preview(service: Service, ranges: Ranges, range: (u32, i32, i32), out: Ef
     let outlook = lines.map_or(Outlook::Open, |(slow, fast)| Outlook::of_lines(slow, fast, service, time));
     rows::tell(out, outlook);
     Ok(())
+}
+
+/// The number of ranges of the latest run, or of a refusal.
+#[inline(never)]
+pub fn latest(service: Service, ranges: Ranges, mut out: Lines, trend: TrendMut) -> Result<usize, u8> {
+    trial::try_latest(service, ranges, &out)?;
+    let mut up = [0; trial::MOST_RANGES];
+    let mut down = [0; trial::MOST_RANGES];
+    let mut chains = Chains { up: &mut up, down: &mut down };
+    let n = ranges.times.len();
+    let start = backward::latest_start(ranges, &mut chains);
+    let ends = Ends::of(ranges);
+    let run = n - start as usize;
+    match run::run_from(ends, &mut chains, start, n as u32).polygon {
+        None => rows::tell_trend(trend, run, Outlook::Open, 0),
+        Some(found) => {
+            let outlook = Outlook::of_lines(found.slow, found.fast, service, ranges.times[n - 1]);
+            rows::tell_trend(trend, run, outlook, corner_list::list_corners(ends, &chains, found, &mut out));
+        }
+    }
+    Ok(run)
 }
 
 /// Puts a range on a panel, or gives the number of a refusal.

@@ -1,8 +1,8 @@
-//! A segment, and its row of numbers into the lent columns; the numbers of an effect.
+//! A segment, and its row of numbers into the lent columns; the numbers of an effect and of a trend.
 
 use super::line::Line;
 use super::outlook::Outlook;
-use humoraki::lent::{Columns, EffectMut};
+use humoraki::lent::{Columns, EffectMut, TrendMut};
 use humoraki::{BEGINS, JOINS, NONE};
 
 #[derive(Clone, Copy)]
@@ -33,6 +33,16 @@ pub fn tell(out: EffectMut, outlook: Outlook) {
     (*out.slow_p, *out.slow_q, *out.slow_d) = (slow.p, slow.q, slow.d);
     (*out.fast_p, *out.fast_q, *out.fast_d) = (fast.p, fast.q, fast.d);
     (*out.some, *out.all) = (some, all);
+}
+
+/// Sets the numbers of a latest trend.
+pub fn tell_trend(out: TrendMut, ranges: usize, outlook: Outlook, corners: usize) {
+    let (slow, fast, some, all) = numbers(outlook);
+    *out.ranges = ranges;
+    (*out.slow_p, *out.slow_q, *out.slow_d) = (slow.p, slow.q, slow.d);
+    (*out.fast_p, *out.fast_q, *out.fast_d) = (fast.p, fast.q, fast.d);
+    (*out.some, *out.all) = (some, all);
+    *out.corners = corners;
 }
 
 /// Stores a segment at a place of each column.

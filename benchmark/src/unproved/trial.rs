@@ -75,10 +75,16 @@ pub fn try_preview(service: Service, ranges: Ranges, range: (u32, i32, i32)) -> 
     try_range(least, range).map(|_| ())
 }
 
+fn lacks_room(out: &Lines) -> bool {
+    [out.ps.len(), out.qs.len(), out.ds.len()].iter().any(|&n| n < CORNER_ROOM)
+}
+
+pub fn try_latest(service: Service, ranges: Ranges, out: &Lines) -> Result<(), u8> {
+    try_lists(lacks_room(out), MOST_RANGES, service_outside(service), ranges).map(|_| ())
+}
+
 pub fn try_corners(k: usize, ranges: Ranges, out: &Lines) -> Result<(), u8> {
-    let lengths = [out.ps.len(), out.qs.len(), out.ds.len()];
-    let short = lengths.iter().any(|&n| n < CORNER_ROOM);
-    try_lists(short, MOST_RANGES, false, ranges)?;
+    try_lists(lacks_room(out), MOST_RANGES, false, ranges)?;
     if k == 0 || ranges.times.len() < k {
         return Err(9);
     }

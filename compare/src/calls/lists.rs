@@ -1,4 +1,4 @@
-//! The lists that Write, Segment, Corners and Preview are lent to read.
+//! The lists that Write, Segment, Corners, Preview and Latest are lent to read.
 
 use crate::lent::{Lent, Use, Watched};
 use crate::random::Random;

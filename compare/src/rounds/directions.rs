@@ -8,6 +8,7 @@ use crate::room::Room;
 use crate::segments::BY_TRYING;
 use crate::trace::{Lists, Range, Service};
 use crate::traces::services::no_direction;
+use crate::trends;
 
 /// Addresses of one byte and of two, and level 20.
 const ADDRESSES: [&[u8]; 2] = [&[1, 0, 1, 7], &[1, 0, 2, 1, 0]];
@@ -102,19 +103,21 @@ fn handed_in(desk: &mut Desk) -> Outcome {
     let far: Vec<u32> = (0..OUTSIDE).map(|_| no_direction(&mut desk.random)).collect();
     for direction in [0, 1, 2, 255, 256, 257, u32::MAX].into_iter().chain(far) {
         for lists in [&Lists::default(), &lists] {
-            three_calls(desk, Service { level: 20, direction }, lists)?;
+            four_calls(desk, Service { level: 20, direction }, lists)?;
         }
         desk.tally.add(HANDED[(direction > 1) as usize], 1);
     }
     Ok(())
 }
 
-fn three_calls(desk: &mut Desk, service: Service, lists: &Lists) -> Outcome {
+fn four_calls(desk: &mut Desk, service: Service, lists: &Lists) -> Outcome {
     let expected = answers::write(7, service, lists);
     desk.write((7, service, lists), borrowed(&expected), &Room::enough())?;
     let expected = answers::segment(service, lists, BY_TRYING);
     desk.segment(service, lists, borrowed(&expected), &Room::enough())?;
     let range = Range { time: 30, low: 26, high: 30 };
     let expected = answers::preview(service, lists, &range, BY_TRYING);
-    desk.preview((service, lists, &range), borrowed(&expected))
+    desk.preview((service, lists, &range), borrowed(&expected))?;
+    let expected = answers::latest(service, lists, trends::BY_TRYING);
+    desk.latest((service, lists), borrowed(&expected), &Room::enough())
 }

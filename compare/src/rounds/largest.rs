@@ -9,6 +9,7 @@ use crate::room::Room;
 use crate::segments::BY_CLIPPING;
 use crate::trace::{FALLING, LARGEST_ADDRESS, LARGEST_VALUE, LEAST_VALUE, Lists, MOST_RANGES, Range, Service, Trace};
 use crate::traces::long::full;
+use crate::trends;
 use humoraki::WRITE_ROOM;
 
 /// What the report program reads of standard input at most.
@@ -53,6 +54,8 @@ fn as_lists(desk: &mut Desk, count: usize) -> Outcome {
         }
         let expected = answers::segment(service, &lists, BY_CLIPPING);
         desk.segment(service, &lists, borrowed(&expected), &Room::enough())?;
+        let expected = answers::latest(service, &lists, trends::BY_CLIPPING);
+        desk.latest((service, &lists), borrowed(&expected), &Room::enough())?;
     }
     for k in [0, 1, 2, count, count + 1] {
         let expected = answers::corners(k, &lists, BY_CLIPPING);

@@ -1,8 +1,8 @@
-//! Every set of faults in what Write, Segment and Corners are handed, so that the order of the refusals is tried; and in
-//! the mirror.
+//! Every set of faults in what Write, Segment, Corners and Latest are handed, so that the order of the refusals is
+//! tried; and in the mirror.
 
 use crate::answers::{self, borrowed};
-use crate::calls::{columns, corners, write};
+use crate::calls::{columns, lines, write};
 use crate::damage::outside;
 use crate::desk::Desk;
 use crate::difference::Outcome;
@@ -15,6 +15,7 @@ use crate::traces::addresses;
 use crate::traces::long::full;
 use crate::traces::services::{no_direction, small_service};
 use crate::traces::small::small_ranges;
+use crate::trends;
 use humoraki::{CORNER_ROOM, SEGMENT_ROOM, WRITE_ROOM};
 
 /// What may be wrong with one range.
@@ -59,7 +60,7 @@ const FAULTS: [Fault; 11] = [
 /// How often each set of faults is tried.
 const ROUNDS: usize = 10;
 
-/// What is handed to the three calls.
+/// What is handed to the four calls.
 struct Handed {
     address: u32,
     service: Service,
@@ -77,7 +78,7 @@ pub fn compare(desk: &mut Desk) -> Outcome {
             for fault in faults() {
                 spoil(&mut handed, fault, &mut desk.random);
             }
-            three_calls(desk, &handed)?;
+            four_calls(desk, &handed)?;
         }
     }
     Ok(())
@@ -147,7 +148,7 @@ pub fn change_length(lists: &mut Lists, random: &mut Random) {
     }
 }
 
-fn three_calls(desk: &mut Desk, handed: &Handed) -> Outcome {
+fn four_calls(desk: &mut Desk, handed: &Handed) -> Outcome {
     let Handed { address, service, k, lists, short } = handed;
     desk.tally.add("sets of faults in lists", 1);
     let room = |places, least, random: &mut Random| match short {
@@ -161,8 +162,12 @@ fn three_calls(desk: &mut Desk, handed: &Handed) -> Outcome {
     let expected = answers::segment(*service, lists, BY_TRYING);
     desk.segment(*service, lists, borrowed(&expected), &for_segment)?;
     mirrors::segment(desk, *service, lists, borrowed(&expected))?;
-    let for_corners = room(corners::PLACES, CORNER_ROOM, &mut desk.random);
+    let for_corners = room(lines::PLACES, CORNER_ROOM, &mut desk.random);
     let expected = answers::corners(*k, lists, BY_TRYING);
     desk.corners(*k, lists, borrowed(&expected), &for_corners)?;
-    mirrors::corners(desk, *k, lists, borrowed(&expected))
+    mirrors::corners(desk, *k, lists, borrowed(&expected))?;
+    let for_latest = room(lines::PLACES, CORNER_ROOM, &mut desk.random);
+    let expected = answers::latest(*service, lists, trends::BY_TRYING);
+    desk.latest((*service, lists), borrowed(&expected), &for_latest)?;
+    mirrors::latest(desk, *service, lists, borrowed(&expected))
 }

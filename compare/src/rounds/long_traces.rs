@@ -1,5 +1,5 @@
 //! Long traces against the clipped polygon: every call, with Corners for every k, and Preview for every range, or for
-//! many; and in the mirror.
+//! many, and Latest as the trace is cut from its end; and in the mirror.
 
 use crate::answers::Effect;
 use crate::desk::Desk;
@@ -8,12 +8,13 @@ use crate::file;
 use crate::meaning;
 use crate::report;
 use crate::room::Room;
-use crate::rounds::mirrors;
+use crate::rounds::{latest, mirrors};
 use crate::segments::{BY_CLIPPING, Segment, Stage, stages};
 use crate::trace::{Lists, MOST_RANGES, Range, Trace};
 use crate::traces::addresses::address;
 use crate::traces::long::SHAPES;
 use crate::traces::services::service;
+use crate::trends::{self, Run, cut_from_the_end};
 use std::slice;
 
 /// Traces of so many ranges are tried by both fitters.
@@ -33,12 +34,15 @@ pub fn compare(desk: &mut Desk) -> Outcome {
         for count in [TRIED, EVERY_K, 1500, MOST_RANGES - 1, MOST_RANGES] {
             desk.tally.add("long traces", 1);
             let ranges = formula(count, &mut desk.random);
+            let runs = cut_from_the_end(&ranges, trends::BY_CLIPPING);
             if count == TRIED {
                 meaning::check_fitters(&ranges)?;
+                latest::check_finders(&ranges, &cut_from_the_end(&ranges, trends::BY_TRYING))?;
             }
             let last_stages = every_stage(desk, &ranges)?;
+            latest::cut(desk, &ranges, &runs, last_stages.len())?;
             for _ in 0..SERVICES {
-                for_some_service(desk, &ranges, &last_stages)?;
+                for_some_service(desk, &ranges, &last_stages, &runs)?;
             }
         }
     }
@@ -78,7 +82,7 @@ fn last_range(desk: &mut Desk, stage: &Stage, ranges: &[Range]) -> Outcome {
     mirrors::preview(desk, (service, &lists, &ranges[place]), Ok(&effect))
 }
 
-fn for_some_service(desk: &mut Desk, ranges: &[Range], last_stages: &[Stage]) -> Outcome {
+fn for_some_service(desk: &mut Desk, ranges: &[Range], last_stages: &[Stage], runs: &[Run]) -> Outcome {
     let service = service(ranges, last_stages, &mut desk.random);
     let segments: Vec<Segment> = last_stages.iter().map(|stage| stage.segment(ranges, service)).collect();
     let trace = Trace { address: address(&mut desk.random), service, ranges: ranges.to_vec() };
@@ -87,6 +91,7 @@ fn for_some_service(desk: &mut Desk, ranges: &[Range], last_stages: &[Stage]) ->
     let text = report::accepted(&trace, &segments);
     desk.segment(service, &lists, Ok(&segments), &Room::enough())?;
     mirrors::segment(desk, service, &lists, Ok(&segments))?;
+    latest::whole(desk, &trace, runs)?;
     desk.read(&file, Ok(&trace), &Room::enough())?;
     desk.write((trace.address, service, &lists), Ok(&file), &Room::enough())?;
     desk.report(&file, &text, &Room::enough())

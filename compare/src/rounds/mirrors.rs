@@ -9,6 +9,7 @@ use crate::mirror;
 use crate::room::Room;
 use crate::segments::{BY_TRYING, Segment, segments};
 use crate::trace::{Lists, Range, Service, Trace};
+use crate::trends::Trend;
 
 pub fn segment(desk: &mut Desk, service: Service, lists: &Lists, expected: Result<&[Segment], u8>) -> Outcome {
     let image = expected.map(mirror::segments);
@@ -27,6 +28,12 @@ pub fn preview(desk: &mut Desk, handed: (Service, &Lists, &Range), expected: Res
     let image = expected.map(mirror::effect);
     desk.tally.add("mirrored: Preview", 1);
     desk.preview((mirror::service(service), &mirror::lists(lists), &mirror::range(range)), borrowed(&image))
+}
+
+pub fn latest(desk: &mut Desk, service: Service, lists: &Lists, expected: Result<&Trend, u8>) -> Outcome {
+    let image = expected.map(mirror::trend);
+    desk.tally.add("mirrored: Latest", 1);
+    desk.latest((mirror::service(service), &mirror::lists(lists)), borrowed(&image), &Room::enough())
 }
 
 /// What is expected of a trace and of its image, each found by itself, are images of each other.

@@ -5,6 +5,8 @@ pub mod damaged_files;
 pub mod directions;
 pub mod field_faults;
 pub mod largest;
+pub mod latest;
+pub mod latest_cases;
 pub mod list_faults;
 pub mod long_traces;
 pub mod mirrors;

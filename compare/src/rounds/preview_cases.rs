@@ -46,7 +46,7 @@ fn falling(desk: &mut Desk) -> Outcome {
 }
 
 /// The least number that is no level.
-const OUTSIDE: Service = Service { level: 268_435_457, direction: RISING };
+pub const OUTSIDE: Service = Service { level: 268_435_457, direction: RISING };
 
 const BEGINS: Effect = Effect { begins: true, outlook: Outlook::Open };
 
@@ -54,17 +54,17 @@ fn joins(slow: Line, fast: Line, some: Option<u32>, all: Option<u32>) -> Effect 
     Effect { begins: false, outlook: Outlook::Lines { slow, fast, some, all } }
 }
 
-fn line(p: i128, q: i128, d: i128) -> Line {
+pub fn line(p: i128, q: i128, d: i128) -> Line {
     Line { p, q, d }
 }
 
 /// A range at time 0.
-fn one(low: i32, high: i32) -> Lists {
+pub fn one(low: i32, high: i32) -> Lists {
     Lists { times: vec![0], lows: vec![low], highs: vec![high] }
 }
 
 /// So many ranges, all at time 0 and from 0 to 4.
-fn still(count: usize) -> Lists {
+pub fn still(count: usize) -> Lists {
     Lists { times: vec![0; count], lows: vec![0; count], highs: vec![4; count] }
 }
 

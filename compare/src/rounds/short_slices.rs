@@ -1,7 +1,7 @@
 //! Each slice that a call fills, and each list of a panel, in its place: just long enough, short by one, and empty.
 
 use crate::answers::{self, borrowed};
-use crate::calls::{columns, corners, head_ranges, read, write};
+use crate::calls::{columns, head_ranges, lines, read, write};
 use crate::damage::damaged;
 use crate::desk::Desk;
 use crate::difference::Outcome;
@@ -12,6 +12,7 @@ use crate::rounds::panel_faults::shorten;
 use crate::segments::{BY_TRYING, segments};
 use crate::trace::{Lists, Range, Trace};
 use crate::traces::small::small_trace;
+use crate::trends;
 use humoraki::{CORNER_ROOM, PANEL_ROOM, READ_ROOM, REPORT_ROOM, SEGMENT_ROOM, WRITE_ROOM};
 
 /// How many traces are tried.
@@ -61,8 +62,12 @@ fn on_lists(desk: &mut Desk, trace: &Trace) -> Outcome {
     }
     let k = trace.ranges.len();
     let expected = answers::corners(k, &lists, BY_TRYING);
-    for room in rooms(corners::PLACES, CORNER_ROOM) {
+    for room in rooms(lines::PLACES, CORNER_ROOM) {
         desk.corners(k, &lists, borrowed(&expected), &room)?;
+    }
+    let expected = answers::latest(trace.service, &lists, trends::BY_TRYING);
+    for room in rooms(lines::PLACES, CORNER_ROOM) {
+        desk.latest((trace.service, &lists), borrowed(&expected), &room)?;
     }
     Ok(())
 }

@@ -1,5 +1,5 @@
-//! Random small traces: every call, with Corners for every k and for some that are too large, and Preview for every
-//! range; and in the mirror.
+//! Random small traces: every call, with Corners for every k and for some that are too large, Preview for every range,
+//! and Latest as the trace is cut from its end; and in the mirror.
 
 use crate::answers;
 use crate::desk::Desk;
@@ -10,7 +10,7 @@ use crate::meaning::{self, has_reached};
 use crate::outlook::Outlook;
 use crate::report;
 use crate::room::Room;
-use crate::rounds::{mirrors, previews};
+use crate::rounds::{latest, mirrors, previews};
 use crate::segments::{BY_TRYING, Segment, Stage, segments, stages};
 use crate::tally::Tally;
 use crate::trace::{FALLING, LAST_TIME, Lists, Range, Service, Trace};
@@ -24,6 +24,7 @@ pub fn compare(desk: &mut Desk, traces: usize) -> Outcome {
         desk.tally.add(kind, 0);
     }
     previews::count_none(desk);
+    latest::count_none(desk);
     for _ in 0..traces {
         let (ranges, kind) = small_ranges(&mut desk.random);
         let stages: Vec<Stage> = stages(&ranges, BY_TRYING).collect();
@@ -40,6 +41,7 @@ pub fn compare(desk: &mut Desk, traces: usize) -> Outcome {
         calls(desk, &trace, &segments)?;
         every_prefix(desk, &trace, &stages)?;
         previews::compare(desk, &trace, &segments)?;
+        latest::compare(desk, &trace, &segments)?;
     }
     Ok(())
 }

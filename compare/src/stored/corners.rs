@@ -6,7 +6,7 @@ use super::shapes::{LATE_FIRST, Shape, Shaped, WIDE, WIDE_FIRST, WIDE_RAGGED};
 use super::trials::Trial;
 use super::{FITTER, shown};
 use crate::answers;
-use crate::calls::corners::PLACES;
+use crate::calls::lines::PLACES;
 use crate::line::Line;
 use crate::trace::MOST_RANGES;
 

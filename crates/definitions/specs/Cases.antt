@@ -25,21 +25,22 @@ use Rattle.definitions.specs.Segments.{segments, runningAfter}
 use Rattle.definitions.specs.Outlook.{passed, hasReached, someTime, allTime, Outlook, open-strip, lines, outlookOf, endTime, outlook}
 use Rattle.definitions.specs.Results.{Segment, segmentOf, segmentsOf, rowLength}
 use Rattle.definitions.specs.Answers.{Answer, refused, accepted, _>>=_, firstRow}
-use Rattle.definitions.specs.Trial.{outside, badAddress, badDirection, notAbove, rangeRows, rangesRows, tooShort, differ, listRows, writeRows, segmentRows, cornerRows}
+use Rattle.definitions.specs.Trial.{outside, badAddress, badDirection, notAbove, rangeRows, rangesRows, tooShort, differ, listRows, writeRows, segmentRows, latestRows, cornerRows}
 use Rattle.definitions.specs.FileNumbers.{word, bytes4, signed, unsigned}
 use Rattle.definitions.specs.FieldKinds.{field, fieldTag, fieldSize, fieldBody, fieldRest, fieldRows, takeField, optionalBy, optional, optionalField}
 use Rattle.definitions.specs.HeaderFields.{addressOf, addressBody, levelOf, directionIn, addressKind, levelKind, directionKind, readHeader, writeHeader}
 use Rattle.definitions.specs.TraceFile.{Trace, rangeOf, rangeForm, rangeKind, readFields, readFile, writeRanges, writeFile}
-use Rattle.definitions.specs.Calls.{Fit, bounded, fitOf, readCall, writeCall, segmentCall, cornersCall}
+use Rattle.definitions.specs.Calls.{Fit, bounded, fitOf, cornersIn, readCall, writeCall, segmentCall, cornersCall}
 use Rattle.definitions.specs.Previews.{longer, Effect, joins, begins, lastOutlook, effectOf, previewCall}
+use Rattle.definitions.specs.Latest.{latestBy, latestRun, Trend, trendOf, latestCall}
 use Rattle.definitions.specs.Report.{ascii, digitsWithin, decimal, signedDecimal, timeText, lineText, outlookText, spanText, segmentLine, segmentLines, traceLine, refusedLine, traceText, reportText, report, reportRoom, reportCall}
 use Rattle.definitions.specs.Panels.{Panel, totalHeld, commonTaken, isAt, either, heldBy, zipTaken, taken, onPanel, kept, headRanges, lastTime, countedIn, occurrences, twice, outsideAddress, miscounted, badPanel, notPanel, unknown, crowded}
 use Rattle.definitions.specs.PanelCalls.{roomOf, panelRows, addRows, bumped, entriesAfter, putAt, added, addCall, headRangesCall}
 use Rattle.definitions.specs.declared.entries.Entry.{Entry}
 
 -- Segment with a level, a direction and lists, Corners with k and lists, Read or the report with a file, Write with an address, a level, a direction and no
--- ranges, Add with a panel, an address and a range, Head ranges with a panel and an address, or Preview with a level, a direction, lists and a range; the slices
--- to be filled are as long as they must be
+-- ranges, Add with a panel, an address and a range, Head ranges with a panel and an address, Preview with a level, a direction, lists and a range, or Latest with a
+-- level, a direction and lists; the slices to be filled are as long as they must be
 pub data Call : Type 0 where
   segment : Service → Lists → Call
   cornersAfter : ℕ → Lists → Call
@@ -49,6 +50,7 @@ pub data Call : Type 0 where
   add : Panel → ℕ → Range → Call
   rangesAt : Panel → ℕ → Call
   preview : Service → Lists → Range → Call
+  latest : Service → Lists → Call
 
 pub data Result : Type 0 where
   segmented : Answer (List Segment) → Result
@@ -59,6 +61,7 @@ pub data Result : Type 0 where
   tried : Answer Panel → Result
   listed : Answer (List Range) → Result
   seen : Answer Effect → Result
+  trended : Answer Trend → Result
 
 pub run : Call → Result
 run (segment v ls) = segmented (segmentCall (replicate rowLength segmentRoom) v ls)
@@ -69,6 +72,7 @@ run (print bs) = printed (reportCall (reportRoom ∷ []) bs)
 run (add s a r) = tried (addCall s a r)
 run (rangesAt s a) = listed (headRangesCall (replicate 3 panelRoom) s a)
 run (preview v ls r) = seen (previewCall v ls r)
+run (latest v ls) = trended (latestCall (replicate 3 cornerRoom) v ls)
 
 infix 85 _gives_
 pub data Case : Type 0 where
@@ -217,6 +221,9 @@ panelIs s = tried (accepted s)
 abbrev effectIs : Effect → Result
 effectIs e = seen (accepted e)
 
+abbrev trendIs : ℕ → Outlook → List Line → Result
+trendIs n o ks = trended (accepted (record { ranges = n; outlook = o; corners = ks }))
+
 -- ---- the table
 
 pub table : List Case
@@ -319,8 +326,17 @@ table =
     (ascii "detector 7 level 20 ranges 5 segments 2\n"
     ++ ascii "segment 1 from 10 to 30 ranges 3 slow -7 470 10 fast -3 390 10 some 39 all 64\n"
     ++ ascii "segment 2 from 40 to 50 ranges 2 slow -3 430 10 fast 1 105 5 some 77 all none\n")
+    ∷ latest (rise (pos 20)) sample gives trendIs 3 (lines (line (minus 1) (pos 95) (pos 5)) (line (pos 1) (pos 70) (pos 10)) (at 130) none) (line (minus 1) (pos 95) (pos 5) ∷ line (pos 1) (pos 70) (pos 10) ∷ line (minus 1) (pos 230) (pos 20) ∷ [])
+    ∷ latest (fall (pos 20)) beam gives trendIs 3 (lines (line (minus 1) (pos 330) (pos 10)) (line (pos 1) (pos 105) (pos 5)) (at 130) none) (line (minus 1) (pos 330) (pos 10) ∷ line (pos 1) (pos 570) (pos 20) ∷ line (pos 1) (pos 105) (pos 5) ∷ [])
+    ∷ latest (rise (pos 1)) (points (pos 2)) gives trendIs 3 (lines (line (pos 1) (pos 0) (pos 1)) (line (pos 1) (pos 0) (pos 1)) (at 2) (at 2)) (line (pos 1) (pos 0) (pos 1) ∷ [])
+    ∷ latest (rise (pos 20)) (points (pos 3)) gives trendIs 2 (lines (line (pos 2) (minus 1) (pos 1)) (line (pos 2) (minus 1) (pos 1)) (at 11) (at 11)) (line (pos 2) (minus 1) (pos 1) ∷ [])
+    ∷ latest (rise (pos 20)) (trace [] [] []) gives trendIs 0 open-strip []
+    ∷ latest (rise (pos 20)) (one (pos 0) (pos 4)) gives trendIs 1 open-strip []
+    ∷ latest (rise (pos 20)) (one (pos 1) (pos 0)) gives trended (refused 5)
+    ∷ latest (record { level = pos 20; direction = 2 }) (one (pos 1) (pos 0)) gives trended (refused 4)
+    ∷ latest (record { level = pos 20; direction = 2 }) (still 4097) gives trended (refused 7)
     ∷ []
 
 pub table-holds : map (λ c. run (callOf c)) table ≡ map resultOf table
-unfolding table run callOf resultOf all any filter reading fitsRange fits sideAt atOrAbove atOrBelow through throughEnds candidatesFrom candidates hasLine euclid gcd commonDivisor reduced before side between betweenSome insert sorted fitting extreme getLastD cornerOrder corners cutFrom cut lastRun segments runningAfter scan firstByEnds first directionOf passed hasReached someTime allTime outlookOf endTime outlook segmentOf segmentsOf _>>=_ firstRow outside badAddress badDirection notAbove rangeRows rangesRows tooShort zipRanges rangesOf differ listRows writeRows segmentRows cornerRows word bytes4 signed unsigned field fieldTag fieldSize fieldBody fieldRest fieldRows takeField optionalBy optional optionalField addressOf addressBody levelOf directionIn addressKind levelKind directionKind readHeader writeHeader rangeOf rangeForm rangeKind readFields readFile writeRanges writeFile fitOf readCall writeCall segmentCall cornersCall digitsWithin decimal signedDecimal timeText lineText outlookText spanText segmentLine segmentLines traceLine refusedLine traceText reportText report reportCall totalHeld commonTaken isAt either heldBy zipTaken taken onPanel kept headRanges lastTime countedIn occurrences twice outsideAddress miscounted badPanel notPanel unknown crowded roomOf panelRows addRows bumped entriesAfter putAt added addCall headRangesCall longer lastOutlook effectOf previewCall
+unfolding table run callOf resultOf all any filter reading fitsRange fits sideAt atOrAbove atOrBelow through throughEnds candidatesFrom candidates hasLine euclid gcd commonDivisor reduced before side between betweenSome insert sorted fitting extreme getLastD cornerOrder corners cutFrom cut lastRun segments runningAfter scan firstByEnds first directionOf passed hasReached someTime allTime outlookOf endTime outlook segmentOf segmentsOf _>>=_ firstRow outside badAddress badDirection notAbove rangeRows rangesRows tooShort zipRanges rangesOf differ listRows writeRows segmentRows latestRows cornerRows word bytes4 signed unsigned field fieldTag fieldSize fieldBody fieldRest fieldRows takeField optionalBy optional optionalField addressOf addressBody levelOf directionIn addressKind levelKind directionKind readHeader writeHeader rangeOf rangeForm rangeKind readFields readFile writeRanges writeFile fitOf cornersIn readCall writeCall segmentCall cornersCall digitsWithin decimal signedDecimal timeText lineText outlookText spanText segmentLine segmentLines traceLine refusedLine traceText reportText report reportCall totalHeld commonTaken isAt either heldBy zipTaken taken onPanel kept headRanges lastTime countedIn occurrences twice outsideAddress miscounted badPanel notPanel unknown crowded roomOf panelRows addRows bumped entriesAfter putAt added addCall headRangesCall longer lastOutlook effectOf previewCall latestBy latestRun trendOf latestCall
 table-holds = refl

@@ -18,6 +18,7 @@ pub mod HeaderFields
 pub mod TraceFile
 pub mod Calls
 pub mod Previews
+pub mod Latest
 pub mod Mirrors
 pub mod Report
 pub mod Panels

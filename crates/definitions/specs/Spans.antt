@@ -46,7 +46,7 @@ writeRoom = 61456
 abbrev pub segmentRoom : ℕ
 segmentRoom = 2048
 
--- Corners: p, q and d
+-- Corners and Latest: p, q and d
 abbrev pub cornerRoom : ℕ
 cornerRoom = 8192
 

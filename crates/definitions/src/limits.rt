@@ -31,7 +31,7 @@ pub const WRITE_ROOM: usize = 61456;
 // The least length of each slice that Segment fills: two ranges always have a line, so there are no more segments.
 pub const SEGMENT_ROOM: usize = 2048;
 
-// The least length of each slice that Corners fills: k ranges have at most 2k corners.
+// The least length of each slice that Corners and Latest fill: k ranges have at most 2k corners.
 pub const CORNER_ROOM: usize = 8192;
 
 // How many entries a panel has at most.

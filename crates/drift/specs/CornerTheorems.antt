@@ -1,6 +1,5 @@
--- The corners through the call: theorems about what Corners left in the slices.
+-- The corners through the call: theorems about what Corners left in the slices. `givenLines n ps qs ds` are the lines whose p, q and d are the first n entries of three slices.
 --
---     givenLines n ps qs ds      the lines whose p, q and d are the first n entries of three slices
 -- Where it gave the number n of corners
 --     given-segment              the segment running after k ranges is the front, up to range k, of the whole trace's segment that has range k
 --     given-corners              these lines are the corners of the segment running after k ranges, in the scope's list
@@ -19,14 +18,13 @@
 --     refused-kept               the slices hold their old contents
 --
 -- Assumes nothing.
-use mathlib.Core.Path.{_≡_, refl, sym, ap, ap₂, _∙_, subst}
+use mathlib.Core.Path.{_≡_, refl, sym, ap, _∙_, subst}
 use mathlib.Core.Logic.{_↔_}
-use mathlib.Core.List.{List, [], _∷_, _++_, map, List·Nodup}
+use mathlib.Core.List.{List, [], _∷_, List·Nodup}
 use Prim.Native.Nat.{ℕ, _*_, _≤_}
 use native.Mathlib.Omega.{arith}
 use lib.IntN.{ℤ}
-use lib.ListN.{length, take, drop, length-map}
-use lib.Seq.{take-at, drop-at}
+use lib.ListN.{length, drop}
 use Rattle.integers.specs.Lists.{All, In}
 use Rattle.integers.specs.LowestTerms.{InLowestTerms}
 use Rattle.definitions.specs.Ranges.{Range, Lists, rangesOf}
@@ -35,9 +33,9 @@ use Rattle.definitions.specs.Corners.{corners}
 use Rattle.definitions.specs.Fit.{InFit, HasLine, Ordered, WeightedMean, Corner, InCornerOrder}
 use Rattle.definitions.specs.Splits.{GoodRun}
 use Rattle.definitions.specs.Segments.{segments, runningAfter}
-use Rattle.definitions.specs.Answers.{Answer, refused, accepted, firstRow, filled}
+use Rattle.definitions.specs.Answers.{refused, accepted, firstRow}
 use Rattle.definitions.specs.Trial.{cornerRows}
-use Rattle.definitions.specs.Calls.{Fit, open-strip, bounded, fitOf, cornersCall}
+use Rattle.definitions.specs.Calls.{Fit, open-strip, bounded, fitOf, cornersIn, cornersCall}
 use Rattle.trial_laws.specs.Rows.{first-row-accepted}
 use Rattle.trial_laws.specs.CallLaws.{call-accepted, bind-accepted, bind-refused}
 use Rattle.splits.specs.Runs.{FrontOf}
@@ -46,25 +44,13 @@ use Rattle.lines.specs.Diagonal.{ByDiagonal}
 use Rattle.drift.specs.declared.CornersAnswer.{CornersAnswer}
 use Rattle.drift.specs.declared.CornersAnswer.the-variants.{Corners, Open, Refused}
 use Rattle.drift.specs.RunningSegment.{segment-front, running-ordered, running-short, running-good}
-use Rattle.drift.specs.CornersPromise.{unbounded, corner-count, countOf, cornersIn, cornersMeaning, threeLengths, CornersPromise}
-
--- ---- what the slices give
-
-unfoldable pub zipLines : List ℤ → List ℤ → List ℤ → List Line
-zipLines [] qs ds = []
-zipLines (p ∷ ps) [] ds = []
-zipLines (p ∷ ps) (q ∷ qs) [] = []
-zipLines (p ∷ ps) (q ∷ qs) (d ∷ ds) = record { p = p; q = q; d = d } ∷ zipLines ps qs ds
-
-abbrev pub givenLines : ℕ → List ℤ → List ℤ → List ℤ → List Line
-givenLines n ps qs ds = zipLines (take n ps) (take n qs) (take n ds)
-
-zip-maps : (ks : List Line) → zipLines (map (λ l. l .p) ks) (map (λ l. l .q) ks) (map (λ l. l .d) ks) ≡ ks
-unfolding zipLines
-zip-maps [] = refl
-zip-maps (k ∷ ks) = ap (λ ls. k ∷ ls) (zip-maps ks)
+use Rattle.drift.specs.GivenLines.{givenLines, LinesFilled, lines-given, lines-past, lines-kept, lines-none, corners-about}
+use Rattle.drift.specs.CornersPromise.{unbounded, corner-count, countOf, cornersMeaning, threeLengths, CornersPromise}
 
 -- ---- the call
+
+slices : {k : ℕ} {ls : Lists} {ps qs ds ps′ qs′ ds′ : List ℤ} {answer : CornersAnswer} → CornersPromise k ls ps qs ds ps′ qs′ ds′ answer → LinesFilled (cornersCall (threeLengths ps qs ds) k ls) cornersIn ps qs ds ps′ qs′ ds′
+slices promise = record { ps-are = promise .ps-are; qs-are = promise .qs-are; ds-are = promise .ds-are }
 
 answered : (ns : List ℕ) (k : ℕ) (ls : Lists) (fit : Fit) → cornersCall ns k ls ≡ accepted fit → (firstRow (cornerRows ns k ls) ≡ accepted tt) × (fitOf (runningAfter k (rangesOf ls)) ≡ fit)
 unfolding cornersCall
@@ -75,18 +61,12 @@ answered ns k ls fit e =
 
 -- ---- fits
 
-record TwoOrMore (rs : List Range) (ks : List Line) : Type 0 where
-  pub first : Range
-  pub second : Range
-  pub more : List Range
-  pub is : rs ≡ first ∷ second ∷ more
-  pub corners-are : ks ≡ corners rs
-
-fit-two : (rs : List Range) (ks : List Line) → fitOf rs ≡ bounded ks → TwoOrMore rs ks
+-- a fit that is listed is of two ranges or more, and its list is their corners
+fit-two : (rs : List Range) (ks : List Line) → fitOf rs ≡ bounded ks → (2 ≤ length rs) × (ks ≡ corners rs)
 unfolding fitOf
 fit-two [] ks e = let z : _≡_ {A = ℕ} 0 1 = cc in absurd (omega arith)
 fit-two (r ∷ []) ks e = let z : _≡_ {A = ℕ} 0 1 = cc in absurd (omega arith)
-fit-two (r ∷ s ∷ rs) ks e = record { first = r; second = s; more = rs; is = refl; corners-are = cc }
+fit-two (r ∷ s ∷ rs) ks e = (omega arith, cc)
 
 fit-one : (rs : List Range) → GoodRun HasLine rs → fitOf rs ≡ open-strip → length rs ≡ 1
 unfolding fitOf
@@ -129,42 +109,22 @@ module _ {k : ℕ} {ls : Lists} {ps qs ds ps′ qs′ ds′ : List ℤ} {n : ℕ
   listed : (ks : List Line) × (made .0 ≡ bounded ks) × (n ≡ length ks)
   listed = counted (made .0) n (made .2)
 
-  two : TwoOrMore segment (listed .0)
+  two : (2 ≤ length segment) × (listed .0 ≡ corners segment)
   two = fit-two segment (listed .0) (answered ns k ls (made .0) (made .1) .1 ∙ listed .1)
 
-  long : (number : Line → ℤ) → length (map number (listed .0)) ≡ n
-  long number = length-map (listed .0) number ∙ sym (listed .2)
-
-  -- one slice
-  stands : (number : Line → ℤ) (old new : List ℤ) → new ≡ filled (cornersCall ns k ls) (λ fit. map number (cornersIn fit)) old → new ≡ map number (listed .0) ++ drop n old
-  unfolding filled cornersIn
-  stands number old new e =
-      e
-      ∙ ap (λ x. filled x (λ fit. map number (cornersIn fit)) old) (made .1 ∙ ap accepted (listed .1))
-      ∙ ap (λ j. map number (listed .0) ++ drop j old) (long number)
-
-  first-entries : (number : Line → ℤ) (old new : List ℤ) → new ≡ filled (cornersCall ns k ls) (λ fit. map number (cornersIn fit)) old → take n new ≡ map number (listed .0)
-  first-entries number old new e = ap (take n) (stands number old new e) ∙ take-at (map number (listed .0)) (drop n old) n (long number)
-
-  later-entries : (number : Line → ℤ) (old new : List ℤ) → new ≡ filled (cornersCall ns k ls) (λ fit. map number (cornersIn fit)) old → drop n new ≡ drop n old
-  later-entries number old new e = ap (drop n) (stands number old new e) ∙ drop-at (map number (listed .0)) (drop n old) n (long number)
+  found : cornersCall ns k ls ≡ accepted (bounded (listed .0))
+  found = made .1 ∙ ap accepted (listed .1)
 
   pub given-corners : lines ≡ corners segment
-  given-corners =
-      ap₂ (λ xs ys. zipLines xs ys (take n ds′)) (first-entries (λ l. l .p) ps ps′ (promise .ps-are)) (first-entries (λ l. l .q) qs qs′ (promise .qs-are))
-      ∙ ap (zipLines (map (λ l. l .p) (listed .0)) (map (λ l. l .q) (listed .0))) (first-entries (λ l. l .d) ds ds′ (promise .ds-are))
-      ∙ zip-maps (listed .0)
-      ∙ two .corners-are
+  unfolding cornersIn
+  given-corners = lines-given (slices promise) found (listed .2) ∙ two .1
 
   pub given-about : (P : List Range → List Line → Type 0) → ((r s : Range) (ws : List Range) → Ordered (r ∷ s ∷ ws) → HasLine (r ∷ s ∷ ws) → P (r ∷ s ∷ ws) (corners (r ∷ s ∷ ws))) → P segment lines
-  given-about P h =
-      subst (P segment) (sym given-corners)
-      (subst (λ rs. P rs (corners rs)) (sym (two .is))
-      (h (two .first) (two .second) (two .more) (subst Ordered (two .is) (running-ordered ns k ls passed)) (subst (GoodRun HasLine) (two .is) (running-good ns k ls passed))))
+  given-about P h = subst (P segment) (sym given-corners) (corners-about P h segment (two .0) (running-ordered ns k ls passed) (running-good ns k ls passed))
 
   pub given-count : (n ≡ length (corners segment)) × (n ≤ 2 * k)
   given-count =
-      let m : n ≡ length (corners segment) = listed .2 ∙ ap length (two .corners-are) in
+      let m : n ≡ length (corners segment) = listed .2 ∙ ap length (two .1) in
       let most = given-about (λ rs ks. length ks ≤ 2 * length rs) (λ r s ws o h. corners-count r s ws o h) in
       (m, omega (arith, m, ap length given-corners, most, running-short ns k ls passed))
 
@@ -187,17 +147,8 @@ module _ {k : ℕ} {ls : Lists} {ps qs ds ps′ qs′ ds′ : List ℤ} {n : ℕ
   given-once = given-about (λ rs ks. List·Nodup ks) (λ r s ws o h. corners-once r s ws o h)
 
   pub given-past : (drop n ps′ ≡ drop n ps) × (drop n qs′ ≡ drop n qs) × (drop n ds′ ≡ drop n ds)
-  given-past = (later-entries (λ l. l .p) ps ps′ (promise .ps-are), later-entries (λ l. l .q) qs qs′ (promise .qs-are), later-entries (λ l. l .d) ds ds′ (promise .ds-are))
-
--- ---- nothing filled
-
-slices-kept : {k : ℕ} {ls : Lists} {ps qs ds ps′ qs′ ds′ : List ℤ} {answer : CornersAnswer} → CornersPromise k ls ps qs ds ps′ qs′ ds′ answer → {x : Answer Fit} → cornersCall (threeLengths ps qs ds) k ls ≡ x
-    → ((number : Line → ℤ) (old : List ℤ) → filled x (λ fit. map number (cornersIn fit)) old ≡ old) → (ps′ ≡ ps) × (qs′ ≡ qs) × (ds′ ≡ ds)
-slices-kept {ps = ps} {qs} {ds} promise e same = (
-  promise .ps-are ∙ ap (λ x. filled x (λ fit. map (λ l. l .p) (cornersIn fit)) ps) e ∙ same (λ l. l .p) ps,
-  promise .qs-are ∙ ap (λ x. filled x (λ fit. map (λ l. l .q) (cornersIn fit)) qs) e ∙ same (λ l. l .q) qs,
-  promise .ds-are ∙ ap (λ x. filled x (λ fit. map (λ l. l .d) (cornersIn fit)) ds) e ∙ same (λ l. l .d) ds,
-)
+  unfolding cornersIn
+  given-past = lines-past (slices promise) found (listed .2)
 
 -- ---- open
 
@@ -226,8 +177,8 @@ module _ {k : ℕ} {ls : Lists} {ps qs ds ps′ qs′ ds′ : List ℤ} (promise
   open-none = one-none (runningAfter k (rangesOf ls)) open-one
 
   pub open-kept : (ps′ ≡ ps) × (qs′ ≡ qs) × (ds′ ≡ ds)
-  unfolding filled cornersIn
-  open-kept = slices-kept promise found-open (λ number old. refl)
+  unfolding cornersIn
+  open-kept = lines-none (slices promise) found-open refl
 
 -- ---- refused
 
@@ -237,5 +188,4 @@ module _ {k : ℕ} {ls : Lists} {ps qs ds ps′ qs′ ds′ : List ℤ} {e : ℕ
   found-refused = bind-refused (cornersCall (threeLengths ps qs ds) k ls) countOf e (sym (promise .answer-is))
 
   pub refused-kept : (ps′ ≡ ps) × (qs′ ≡ qs) × (ds′ ≡ ds)
-  unfolding filled
-  refused-kept = slices-kept promise found-refused (λ number old. refl)
+  refused-kept = lines-kept (slices promise) found-refused

@@ -1,7 +1,6 @@
 -- What Corners promises: its answer and the three slices, by equations with the scope's call.
 --
 --     CornerCount, countOf   what the answer tells of a fit: that it is open, or how many corners it has
---     cornersIn              the corners of a fit; an open one has none
 --     cornersMeaning         what each case of the answer stands for
 --     CornersPromise         the answer is that of the call; each slice has its number of each corner and past these its old contents, and its old contents whole
 --                            where the call is refused or the fit is open
@@ -16,7 +15,7 @@ use lib.ListN.{length}
 use Rattle.definitions.specs.Ranges.{Lists}
 use Rattle.definitions.specs.Lines.{Line}
 use Rattle.definitions.specs.Answers.{Answer, refused, accepted, _>>=_, filled}
-use Rattle.definitions.specs.Calls.{Fit, open-strip, bounded, cornersCall}
+use Rattle.definitions.specs.Calls.{Fit, open-strip, bounded, cornersIn, cornersCall}
 use Rattle.drift.specs.declared.CornersAnswer.{CornersAnswer}
 use Rattle.drift.specs.declared.CornersAnswer.the-variants.{Corners, Open, Refused}
 
@@ -27,10 +26,6 @@ pub data CornerCount : Type 0 where
 unfoldable pub countOf : Fit → CornerCount
 countOf open-strip = unbounded
 countOf (bounded ls) = corner-count (length ls)
-
-unfoldable pub cornersIn : Fit → List Line
-cornersIn open-strip = []
-cornersIn (bounded ls) = ls
 
 unfoldable pub cornersMeaning : CornersAnswer → Answer CornerCount
 cornersMeaning (Corners n) = accepted (corner-count n)

@@ -25,7 +25,7 @@ use Rattle.definitions.specs.Corners.{corners}
 use Rattle.definitions.specs.Segments.{runningAfter}
 use Rattle.definitions.specs.Answers.{Answer, refused, accepted, _>>=_, firstRow, filled}
 use Rattle.definitions.specs.Trial.{tooShort, cornerRows}
-use Rattle.definitions.specs.Calls.{Fit, open-strip, bounded, fitOf, cornersCall}
+use Rattle.definitions.specs.Calls.{Fit, open-strip, bounded, fitOf, cornersIn, cornersCall}
 use Rattle.trial_laws.specs.Rows.{row-holds, row-passes}
 use Rattle.trial_laws.specs.ListTrial.{trialRows, countRows, corner-trial}
 use Rattle.trial_laws.specs.Accepted.{AcceptedLists}
@@ -36,7 +36,7 @@ use Rattle.drift.specs.declared.CornersAnswer.the-variants.{Corners, Ope
 use Rattle.fit.specs.declared.last_run.Found.{Found}
 use Rattle.fit.specs.LastRuns.{LastRun}
 use Rattle.corner_list.specs.RunCorners.{RunCorners}
-use Rattle.drift.specs.CornersPromise.{countOf, cornersIn, cornersMeaning, threeLengths, CornersPromise}
+use Rattle.drift.specs.CornersPromise.{countOf, cornersMeaning, threeLengths, CornersPromise}
 
 -- ---- the rows
 module _ (ns : List ℕ) (k : ℕ) (ls : Lists) where

@@ -1,6 +1,7 @@
 pub mod CornersPromise
 pub mod CornersPromiseLaws
 pub mod RunningSegment
+pub mod GivenLines
 pub mod CornerTheorems
 pub mod MirroredCalls
 pub mod Mirror

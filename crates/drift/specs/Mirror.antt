@@ -38,7 +38,8 @@ use Rattle.drift.specs.Columns.{Columns, lengths, rowAt}
 use Rattle.drift.specs.SegmentPromise.{segmentMeaning, SegmentPromise}
 use Rattle.drift.specs.GivenColumns.{called, row-at}
 use Rattle.drift.specs.CornersPromise.{corner-count, cornersMeaning, threeLengths, CornersPromise}
-use Rattle.drift.specs.CornerTheorems.{givenLines, given-corners, given-about}
+use Rattle.drift.specs.GivenLines.{givenLines}
+use Rattle.drift.specs.CornerTheorems.{given-corners, given-about}
 use Rattle.drift.specs.MirroredCalls.{segment-call-mirrored, numbers-mirrored, running-mirrored, corner-count-mirrored}
 
 -- ---- the answers

@@ -8,10 +8,9 @@
 -- The two calls may be lent slices of other lengths, as long as both have room or neither has.
 -- Assumes nothing.
 use mathlib.Core.Path.{_≡_, refl, sym, ap, _∙_}
-use mathlib.Core.List.{List, [], _∷_, _++_, map}
+use mathlib.Core.List.{List, [], _∷_, map}
 use Prim.Native.Nat.{ℕ}
-use native.Mathlib.Omega.{arith}
-use lib.ListN.{length, take, length-map, length-append}
+use lib.ListN.{length, take}
 use Rattle.integers.specs.Images.{take-map}
 use Rattle.definitions.specs.Spans.{segmentRoom, cornerRoom}
 use Rattle.definitions.specs.Services.{Service}
@@ -33,7 +32,7 @@ use Rattle.trial_laws.specs.MirroredTrial.{ranges-mirrored, segment-trial-mirro
 use Rattle.lines.specs.Mirrored.{mirrored}
 use Rattle.lines.specs.MirroredFit.{segments-mirrored}
 use Rattle.lines.specs.MirroredOutlook.{segmentsOf-mirrored}
-use Rattle.lines.specs.MirroredCorners.{TurnedRing, corners-mirrored}
+use Rattle.lines.specs.MirroredCorners.{ring-length, corners-mirrored}
 use Rattle.drift.specs.CornersPromise.{countOf, corner-count}
 use Rattle.drift.specs.RunningSegment.{running-ordered, running-good}
 
@@ -72,12 +71,6 @@ running-mirrored k ls =
     ∙ ap (λ rs. lastRun (segments rs)) (take-map mirroredRange k (rangesOf ls))
     ∙ ap lastRun (segments-mirrored (take k (rangesOf ls)))
     ∙ lastRun-map mirroredRange (segments (take k (rangesOf ls)))
-
-ring-length : {first second : List Line} → TurnedRing first second → length second ≡ length first
-ring-length r =
-    ap length (r .second-is)
-    ∙ length-map ((r .fast ∷ r .more) ++ r .front) mirroredLine
-    ∙ omega (arith, length-append (r .fast ∷ r .more) (r .front), length-append (r .front) (r .fast ∷ r .more), ap length (r .first-is))
 
 count-mirrored : (rs : List Range) → Ordered rs → GoodRun HasLine rs → countOf (fitOf (mirrored rs)) ≡ countOf (fitOf rs)
 unfolding fitOf countOf

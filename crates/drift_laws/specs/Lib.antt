@@ -6,4 +6,5 @@ pub mod ChainLines
 pub mod PolygonSteps
 pub mod RunSteps
 pub mod RunsByPlace
+pub mod FirstRanges
 pub mod LineRows

@@ -4,6 +4,7 @@ pub mod Zero
 pub mod OpenFit
 pub mod PreviewNumbers
 pub mod PreviewAgreement
+pub mod LatestNumbers
 pub mod PanelAnswers
 pub mod Refusals
 pub mod Mirror

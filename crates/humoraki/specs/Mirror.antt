@@ -6,12 +6,15 @@
 --     segment-rows-mirrored          and the j-th row in the slices of the image is the image of the j-th row in those of the trace
 --     preview-number-mirrored        both calls of Preview, the range mirrored as well, give one number
 --     preview-kind-mirrored, preview-eight-mirrored   where it is 0, they set the same kind, and the eight numbers of the image
+--     latest-number-mirrored         both calls of Latest give one number
+--     latest-ranges-mirrored, latest-eight-mirrored, latest-count-mirrored   where it is 0, they set the same number of ranges, the eight numbers of the image, and the same count of corners
+--     latest-ring-mirrored           and where there are two ranges or more, the lines in the slices of the image are those of the trace negated, in the same order, begun at the one of greatest slope
 --     corners-number-mirrored        both calls of Corners give one number
 --     corners-count-mirrored         where it is 0, they set the same count
 --     corners-ring-mirrored          and where that is not 0, the lines in the slices of the image are those of the trace negated, in the same order, begun at the one of greatest slope
 --
 -- Assumes nothing.
-use Prim.Native.Nat.{ℕ, _<_}
+use Prim.Native.Nat.{ℕ, _<_, _≤_}
 use mathlib.Core.Path.{_≡_, refl, sym, ap, _∙_}
 use mathlib.Core.List.{map}
 use native.Mathlib.Omega.{arith}
@@ -23,19 +26,24 @@ use Rattle.definitions.specs.Outlook.{Outlook}
 use Rattle.definitions.specs.Results.{numbersOf, outlookNumbers, lastEight}
 use Rattle.definitions.specs.Answers.{accepted, _>>=_, refusal}
 use Rattle.definitions.specs.Trial.{tooShort}
-use Rattle.definitions.specs.Calls.{Fit, open-strip, bounded}
+use Rattle.definitions.specs.Calls.{Fit, open-strip, bounded, cornersIn}
 use Rattle.definitions.specs.Previews.{Effect, joins, begins, kindNumber, effectOutlook}
 use Rattle.definitions.specs.Mirrors.{mirroredRange, mirroredLists, mirroredService, mirroredOutlook, mirroredSegment, mirroredNumbers, mirroredEight, mirroredEffect}
 use Rattle.trial_laws.specs.CallLaws.{accepted-is, refusal-tells}
 use Rattle.lines.specs.MirroredCorners.{TurnedRing}
+use Rattle.values.specs.Meanings.{outlookOf}
 use Rattle.drift.specs.Columns.{lengths, rowAt}
 use Rattle.drift.specs.SegmentPromise.{segmentMeaning}
-use Rattle.drift.specs.CornersPromise.{corner-count, countOf, cornersIn, cornersMeaning, threeLengths}
-use Rattle.drift.specs.CornerTheorems.{givenLines}
+use Rattle.drift.specs.CornersPromise.{corner-count, countOf, cornersMeaning, threeLengths}
+use Rattle.drift.specs.GivenLines.{givenLines}
 use Rattle.drift.specs.MirroredCalls.{segment-call-mirrored, numbers-mirrored, corner-count-mirrored}
 use Rattle.drift.specs.Mirror.{segment-mirrored, rows-mirrored, ring-mirrored}
 use Rattle.preview.specs.Mirror.{preview-call-mirrored}
-use Rattle.humoraki.specs.Promises.{SegmentLent, segmentAnswer, AfterSegment, cornerNumber, CornersLent, cornersAnswer, AfterCorners, PreviewLent, previewAnswer, AfterPreview}
+use Rattle.humoraki.specs.Promises.{SegmentLent, segmentAnswer, AfterSegment, cornerNumber, CornersLent, cornersAnswer, AfterCorners, PreviewLent, previewAnswer, AfterPreview, LatestLent, latestAnswer, AfterLatest}
+use Rattle.latest.specs.LatestPromise.{toldOf, trendMeaning, latestMeaning}
+use Rattle.latest.specs.Mirror.{mirroredTold, latest-told-mirrored, latest-answer-mirrored, ring-mirrored as latest-ring}
+use Rattle.humoraki.specs.LatestNumbers as LatestNumbers
+use Rattle.humoraki.specs.LatestNumbers.{trendAt}
 use Rattle.humoraki.specs.OpenFit.{answerOf, promise-below, fit-found, count-found}
 use Rattle.humoraki.specs.PreviewNumbers.{effect-found, kind-found, numbers-found}
 use Rattle.humoraki.specs.PreviewAgreement.{segmentAnswerOf, segment-below}
@@ -107,6 +115,46 @@ module _ {v : Service} {ls : Lists} {r : Range} {old new old′ new′ : Preview
         ∙ ap (λ e. outlookNumbers (effectOutlook e)) image-effect
         ∙ effect-eight (effect-found after zero .0)
         ∙ ap mirroredEight (sym (numbers-found after zero))
+
+-- ---- Latest
+
+module _ {v : Service} {ls : Lists} {old new old′ new′ : LatestLent} {number number′ : ℕ} (after : AfterLatest v ls old new number) (image : AfterLatest (mirroredService v) (mirroredLists ls) old′ new′ number′)
+    (alike : tooShort cornerRoom (threeLengths (old′ .ps) (old′ .qs) (old′ .ds)) ≡ tooShort cornerRoom (threeLengths (old .ps) (old .qs) (old .ds))) where
+  latest-told : (latestAnswer (mirroredService v) (mirroredLists ls) old′ >>= λ t. accepted (toldOf t)) ≡ (latestAnswer v ls old >>= λ t. accepted (mirroredTold (toldOf t)))
+  latest-told = latest-told-mirrored v ls (threeLengths (old .ps) (old .qs) (old .ds)) (threeLengths (old′ .ps) (old′ .qs) (old′ .ds)) alike
+
+  pub latest-number-mirrored : number′ ≡ number
+  latest-number-mirrored =
+      image .number-is
+      ∙ sym (refusal-tells toldOf (latestAnswer (mirroredService v) (mirroredLists ls) old′))
+      ∙ ap refusal latest-told
+      ∙ refusal-tells (λ t. mirroredTold (toldOf t)) (latestAnswer v ls old)
+      ∙ sym (after .number-is)
+
+  module _ (zero : number ≡ 0) where
+    latest-image-zero : number′ ≡ 0
+    latest-image-zero = latest-number-mirrored ∙ zero
+
+    -- what both tell
+    image-told : trendMeaning (trendAt image latest-image-zero) ≡ mirroredTold (trendMeaning (trendAt after zero))
+    unfolding latestMeaning _>>=_
+    image-told = accepted-is (latest-answer-mirrored (LatestNumbers.promise-below after zero) (LatestNumbers.promise-below image latest-image-zero) alike)
+
+    pub latest-ranges-mirrored : new′ .ranges ≡ new .ranges
+    latest-ranges-mirrored = ap (λ t. t .ranges) image-told
+
+    pub latest-eight-mirrored : new′ .numbers ≡ mirroredEight (new .numbers)
+    latest-eight-mirrored =
+        LatestNumbers.numbers-below image latest-image-zero
+        ∙ ap (λ t. outlookNumbers (t .outlook)) image-told
+        ∙ eight-mirrored (outlookOf (trendAt after zero .outlook))
+        ∙ ap mirroredEight (sym (LatestNumbers.numbers-below after zero))
+
+    pub latest-count-mirrored : new′ .corners ≡ new .corners
+    latest-count-mirrored = ap (λ t. t .corners) image-told
+
+    pub latest-ring-mirrored : 2 ≤ length (ls .times) → TurnedRing (givenLines (new .corners) (new .ps) (new .qs) (new .ds)) (givenLines (new′ .corners) (new′ .ps) (new′ .qs) (new′ .ds))
+    latest-ring-mirrored two = latest-ring (LatestNumbers.promise-below after zero) (LatestNumbers.promise-below image latest-image-zero) two
 
 -- ---- Corners
 

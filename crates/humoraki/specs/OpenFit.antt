@@ -18,11 +18,11 @@ use Rattle.definitions.specs.Fit.{InCornerOrder, single, around}
 use Rattle.definitions.specs.Segments.{runningAfter}
 use Rattle.definitions.specs.Answers.{accepted, _>>=_, given}
 use Rattle.definitions.specs.Trial.{cornerRows}
-use Rattle.definitions.specs.Calls.{Fit, open-strip, bounded, fitOf, cornersCall}
+use Rattle.definitions.specs.Calls.{Fit, open-strip, bounded, fitOf, cornersIn, cornersCall}
 use Rattle.trial_laws.specs.CallLaws.{call-accepted, accepted-is}
 use Rattle.drift.specs.declared.CornersAnswer.{CornersAnswer}
 use Rattle.drift.specs.declared.CornersAnswer.the-variants.{Corners, Open}
-use Rattle.drift.specs.CornersPromise.{countOf, cornersIn, cornersMeaning, threeLengths, CornersPromise}
+use Rattle.drift.specs.CornersPromise.{countOf, cornersMeaning, threeLengths, CornersPromise}
 use Rattle.drift.specs.CornerTheorems.{given-corners, given-count, given-ordered, open-one}
 use Rattle.humoraki.specs.Promises.{CornersLent, cornersAnswer, AfterCorners}
 use Rattle.humoraki.specs.Zero.{Accepted, corners-zero}

@@ -1,5 +1,6 @@
 -- What the numbers tell that Preview gives and sets. With after : AfterPreview v ls r old new number:
 --
+--     outlookIn, outlook-means      the outlook of the call below that stands for one of the scope
 --     lent-kept                     where the number is not 0, everything that was lent is as it was
 --     effect-found                  where it is 0, the effect that Preview tells
 --     kind-found, numbers-found     then the kind and the eight numbers are those of that effect
@@ -25,6 +26,7 @@ use Rattle.definitions.specs.Outlook.{open-strip, lines, Outlook as OutlookTerm
 use Rattle.definitions.specs.Results.{slowLine, fastLine, someNumber, allNumber, outlookNumbers}
 use Rattle.definitions.specs.Answers.{Answer, refused, accepted, refusal, given}
 use Rattle.definitions.specs.Previews.{Effect, joins, begins, kindNumber, effectOutlook}
+use Rattle.lines.specs.RunOutlook.{LinesOf}
 use Rattle.trial_laws.specs.CallLaws.{accepted-is}
 use Rattle.values.specs.declared.Time.{Time}
 use Rattle.values.specs.declared.Time.the-variants.{Never, At}
@@ -34,7 +36,6 @@ use Rattle.values.specs.Meanings.{timeOf, outlookOf}
 use Rattle.preview.specs.declared.PreviewAnswer.{PreviewAnswer}
 use Rattle.preview.specs.declared.PreviewAnswer.the-variants.{Joins, Begins}
 use Rattle.preview.specs.PreviewPromise.{previewMeaning, PreviewPromise}
-use Rattle.preview.specs.GivenEffects.{LinesOf}
 use Rattle.preview.specs.PreviewTheorems.{begins-open, joins-lines}
 use Rattle.humoraki.specs.Promises.{PreviewLent, eight, previewAnswer, AfterPreview}
 use Rattle.humoraki.specs.Zero.{Accepted, preview-zero}
@@ -45,7 +46,7 @@ timeIn : TimeTerm → Time
 timeIn none = Never
 timeIn (at t) = At t
 
-outlookIn : OutlookTerm → Outlook
+pub outlookIn : OutlookTerm → Outlook
 outlookIn open-strip = Open
 outlookIn (lines slow fast s a) = Lines (record { p = slow .p; q = slow .q; d = slow .d }) (record { p = fast .p; q = fast .q; d = fast .d }) (timeIn s) (timeIn a)
 
@@ -58,7 +59,7 @@ unfolding timeOf timeIn
 time-means none = refl
 time-means (at t) = refl
 
-outlook-means : (o : OutlookTerm) → outlookOf (outlookIn o) ≡ o
+pub outlook-means : (o : OutlookTerm) → outlookOf (outlookIn o) ≡ o
 unfolding outlookOf outlookIn
 outlook-means open-strip = refl
 outlook-means (lines slow fast s a) = ap₂ (lines slow fast) (time-means s) (time-means a)

@@ -3,7 +3,7 @@
 --     number-told, value-told, counts-told                    what tells of a result gives the same number, lent number and lent count as the result
 --     number-accepted, given-accepted, counts-accepted        what an accepted answer gives
 --     number-refused, given-refused, counts-refused           what a refused one gives
---     after-read, after-write, after-segment, after-corners, after-preview, after-report, after-add, after-head-ranges   the promise of each call, from that of the call below and the numbers that its answer is given as
+--     after-read, after-write, after-segment, after-corners, after-preview, after-latest, after-report, after-add, after-head-ranges   the promise of each call, from that of the call below and the numbers that its answer is given as
 --
 -- Assumes nothing.
 use Prim.Native.Nat.{ℕ}
@@ -14,7 +14,7 @@ use Rattle.definitions.specs.Services.{Service}
 use Rattle.definitions.specs.Ranges.{Range, Lists}
 use Rattle.definitions.specs.Headers.{Header}
 use Rattle.definitions.specs.Answers.{Answer, refused, accepted, _>>=_, refusal, given}
-use Rattle.definitions.specs.Calls.{Fit, open-strip, bounded}
+use Rattle.definitions.specs.Calls.{Fit, open-strip, bounded, cornersIn}
 use Rattle.definitions.specs.Previews.{kindNumber, effectOutlook}
 use Rattle.definitions.specs.Panels.{Panel}
 use Rattle.definitions.specs.PanelCalls.{addCall}
@@ -26,15 +26,17 @@ use Rattle.trace.specs.Promises.{readMeaning, writeMeaning, recordOf, writeInto
 use Rattle.drift.specs.declared.SegmentAnswer.{SegmentAnswer}
 use Rattle.drift.specs.declared.CornersAnswer.{CornersAnswer}
 use Rattle.drift.specs.SegmentPromise.{segmentMeaning, SegmentPromise}
-use Rattle.drift.specs.CornersPromise.{countOf, cornersIn, cornersMeaning, CornersPromise}
+use Rattle.drift.specs.CornersPromise.{countOf, cornersMeaning, CornersPromise}
 use Rattle.preview.specs.declared.PreviewAnswer.{PreviewAnswer}
 use Rattle.preview.specs.PreviewPromise.{previewMeaning, PreviewPromise}
+use Rattle.latest.specs.declared.LatestAnswer.{LatestAnswer}
+use Rattle.latest.specs.LatestPromise.{toldOf, latestMeaning, LatestPromise}
 use Rattle.report_text.specs.declared.ReportAnswer.{ReportAnswer}
 use Rattle.report_text.specs.ReportPromise.{reportMeaning, ReportPromise}
 use Rattle.panel.specs.declared.AddAnswer.{AddAnswer}
 use Rattle.panel.specs.declared.HeadRangesAnswer.{HeadRangesAnswer}
 use Rattle.panel.specs.Promises.{addMeaning, AddPromise, headRangesMeaning, HeadRangesPromise}
-use Rattle.humoraki.specs.Promises.{Counts, ReadLent, readAnswer, AfterRead, WriteLent, AfterWrite, SegmentLent, segmentAnswer, AfterSegment, CornersLent, cornersAnswer, cornerNumber, AfterCorners, PreviewLent, AfterPreview, ReportLent, reportAnswer, AfterReport, AfterAdd, HeadRangesLent, headRangesAnswer, AfterHeadRanges}
+use Rattle.humoraki.specs.Promises.{Counts, ReadLent, readAnswer, AfterRead, WriteLent, AfterWrite, SegmentLent, segmentAnswer, AfterSegment, CornersLent, cornersAnswer, cornerNumber, AfterCorners, PreviewLent, AfterPreview, LatestLent, latestAnswer, AfterLatest, ReportLent, reportAnswer, AfterReport, AfterAdd, HeadRangesLent, headRangesAnswer, AfterHeadRanges}
 
 given-tells : {A B C : Type 0} (tells : B → A) (below : Answer B) (of-told : A → C) (of-result : B → C) → ((b : B) → of-told (tells b) ≡ of-result b) → (old : C)
     → given (below >>= λ b. accepted (tells b)) of-told old ≡ given below of-result old
@@ -131,6 +133,24 @@ after-preview v ls r old new h number kind numbers =
       number-is = number ∙ ap refusal (h .answer-is);
       kind-is = kind ∙ ap (λ x. given x kindNumber (old .kind)) (h .answer-is);
       numbers-are = numbers ∙ ap (λ x. given x (λ e. outlookNumbers (effectOutlook e)) (old .numbers)) (h .answer-is);
+    }
+
+pub after-latest : (v : Service) (ls : Lists) (old new : LatestLent) {answer : LatestAnswer} → LatestPromise v ls (old .ps) (old .qs) (old .ds) (new .ps) (new .qs) (new .ds) answer
+    → {number : ℕ} → number ≡ refusal (latestMeaning answer)
+    → new .ranges ≡ given (latestMeaning answer) (λ t. t .ranges) (old .ranges)
+    → new .numbers ≡ given (latestMeaning answer) (λ t. outlookNumbers (t .outlook)) (old .numbers)
+    → new .corners ≡ given (latestMeaning answer) (λ t. t .corners) (old .corners)
+    → AfterLatest v ls old new number
+after-latest v ls old new h number ranges numbers corners =
+    let below = latestAnswer v ls old in
+    record {
+      number-is = number-told toldOf below (h .answer-is) number;
+      ranges-is = value-told toldOf below (h .answer-is) (λ t. t .ranges) (λ t. t .ranges) (λ t. refl) (old .ranges) ranges;
+      numbers-are = value-told toldOf below (h .answer-is) (λ t. outlookNumbers (t .outlook)) (λ t. outlookNumbers (t .outlook)) (λ t. refl) (old .numbers) numbers;
+      corners-is = value-told toldOf below (h .answer-is) (λ t. t .corners) (λ t. length (t .corners)) (λ t. refl) (old .corners) corners;
+      ps-are = h .ps-are;
+      qs-are = h .qs-are;
+      ds-are = h .ds-are;
     }
 
 pub after-report : (file : List ℕ) (old new : ReportLent) {answer : ReportAnswer} {r : ℕ} → ReportPromise file (old .text) (new .text) answer

@@ -2,10 +2,10 @@
 --
 --     Counts                                               the number and the lent count after a call with a count
 --     cornerNumber                                         what the answer of Corners tells of a fit, as a count
---     eight                                                an outlook's numbers, from the eight that are lent to Preview
---     readAnswer, segmentAnswer, cornersAnswer, previewAnswer, reportAnswer, headRangesAnswer   the scope's call on what was lent
---     ReadLent, WriteLent, SegmentLent, CornersLent, PreviewLent, ReportLent, HeadRangesLent   what a caller lends to be filled or set; Add is lent a panel
---     AfterRead, AfterWrite, AfterSegment, AfterCorners, AfterPreview, AfterReport, AfterAdd, AfterHeadRanges   the number, and what holds of all that after the call
+--     eight                                                an outlook's numbers, from the eight that are lent to Preview and Latest
+--     readAnswer, segmentAnswer, cornersAnswer, previewAnswer, latestAnswer, reportAnswer, headRangesAnswer   the scope's call on what was lent
+--     ReadLent, WriteLent, SegmentLent, CornersLent, PreviewLent, LatestLent, ReportLent, HeadRangesLent   what a caller lends to be filled or set; Add is lent a panel
+--     AfterRead, AfterWrite, AfterSegment, AfterCorners, AfterPreview, AfterLatest, AfterReport, AfterAdd, AfterHeadRanges   the number, and what holds of all that after the call
 --
 -- The number is 0 where the call is accepted. Where it is refused, everything that was lent holds its old contents: so say `given` and `filled`.
 --
@@ -23,14 +23,15 @@ use Rattle.definitions.specs.Headers.{Header}
 use Rattle.definitions.specs.Results.{Segment, numbersOf, OutlookNumbers, outlookNumbers}
 use Rattle.definitions.specs.Answers.{Answer, refusal, filled, given}
 use Rattle.definitions.specs.TraceFile.{Trace}
-use Rattle.definitions.specs.Calls.{Fit, segmentCall, cornersCall}
+use Rattle.definitions.specs.Calls.{Fit, cornersIn, segmentCall, cornersCall}
 use Rattle.definitions.specs.Previews.{Effect, previewCall, kindNumber, effectOutlook}
+use Rattle.definitions.specs.Latest.{Trend, latestCall}
 use Rattle.definitions.specs.Report.{reportCall}
 use Rattle.definitions.specs.Panels.{Panel}
 use Rattle.definitions.specs.PanelCalls.{headRangesCall}
 use Rattle.trace.specs.Promises.{readInto, writeInto}
 use Rattle.drift.specs.Columns.{Columns, EachColumn, lengths}
-use Rattle.drift.specs.CornersPromise.{CornerCount, unbounded, corner-count, cornersIn, threeLengths}
+use Rattle.drift.specs.CornersPromise.{CornerCount, unbounded, corner-count, threeLengths}
 use Rattle.panel.specs.Promises.{lengthsOf}
 use Rattle.panel.specs.Admissions.{AddedAs}
 
@@ -123,6 +124,28 @@ pub record AfterPreview (v : Service) (ls : Lists) (r : Range) (old new : Previe
   pub number-is : number ≡ refusal (previewAnswer v ls r)
   pub kind-is : new .kind ≡ given (previewAnswer v ls r) kindNumber (old .kind)
   pub numbers-are : new .numbers ≡ given (previewAnswer v ls r) (λ e. outlookNumbers (effectOutlook e)) (old .numbers)
+
+-- ---- Latest
+
+pub record LatestLent : Type 0 where
+  pub ps : List ℤ
+  pub qs : List ℤ
+  pub ds : List ℤ
+  pub ranges : ℕ
+  pub numbers : OutlookNumbers
+  pub corners : ℕ
+
+abbrev pub latestAnswer : Service → Lists → LatestLent → Answer Trend
+latestAnswer v ls old = latestCall (threeLengths (old .ps) (old .qs) (old .ds)) v ls
+
+pub record AfterLatest (v : Service) (ls : Lists) (old new : LatestLent) (r : ℕ) : Type 0 where
+  pub number-is : r ≡ refusal (latestAnswer v ls old)
+  pub ranges-is : new .ranges ≡ given (latestAnswer v ls old) (λ t. t .ranges) (old .ranges)
+  pub numbers-are : new .numbers ≡ given (latestAnswer v ls old) (λ t. outlookNumbers (t .outlook)) (old .numbers)
+  pub corners-is : new .corners ≡ given (latestAnswer v ls old) (λ t. length (t .corners)) (old .corners)
+  pub ps-are : new .ps ≡ filled (latestAnswer v ls old) (λ t. map (λ l. l .p) (t .corners)) (old .ps)
+  pub qs-are : new .qs ≡ filled (latestAnswer v ls old) (λ t. map (λ l. l .q) (t .corners)) (old .qs)
+  pub ds-are : new .ds ≡ filled (latestAnswer v ls old) (λ t. map (λ l. l .d) (t .corners)) (old .ds)
 
 -- ---- the report
 

@@ -1,7 +1,7 @@
 -- When the library gives which number, as theorems about the number that a caller holds.
 --
---     read-number, write-number, segment-number, corners-number, preview-number, report-number, add-number, head-ranges-number   a number above 0 exactly if a row with it holds and no row that is tried earlier does
---     read-none, write-none, segment-none, corners-none, preview-none, report-none, add-none, head-ranges-none                 0 exactly if no row holds
+--     read-number, write-number, segment-number, corners-number, preview-number, latest-number, report-number, add-number, head-ranges-number   a number above 0 exactly if a row with it holds and no row that is tried earlier does
+--     read-none, write-none, segment-none, corners-none, preview-none, latest-none, report-none, add-none, head-ranges-none                 0 exactly if no row holds
 --
 -- Assumes nothing.
 use Prim.Native.Nat.{ℕ, _<_}
@@ -15,10 +15,11 @@ use Rattle.definitions.specs.Headers.{Header}
 use Rattle.definitions.specs.Segments.{runningAfter}
 use Rattle.definitions.specs.Results.{segmentsOf}
 use Rattle.definitions.specs.Answers.{Answer, accepted, _>>=_, Row, _if_, firstRow, refusal}
-use Rattle.definitions.specs.Trial.{tooShort, writeRows, segmentRows, cornerRows}
+use Rattle.definitions.specs.Trial.{tooShort, writeRows, segmentRows, latestRows, cornerRows}
 use Rattle.definitions.specs.TraceFile.{writeFile}
 use Rattle.definitions.specs.Calls.{fitOf, writeCall, segmentCall, cornersCall}
 use Rattle.definitions.specs.Previews.{previewRows}
+use Rattle.definitions.specs.Latest.{latestRun, trendOf, latestCall}
 use Rattle.definitions.specs.Report.{report, reportRoom, reportCall}
 use Rattle.definitions.specs.Panels.{Panel, onPanel, headRanges}
 use Rattle.definitions.specs.PanelCalls.{roomOf, panelRows, addRows, added, addCall, headRangesCall}
@@ -31,8 +32,8 @@ use Rattle.trace_laws.specs.TraceLaws.{read-by-rows}
 use Rattle.drift.specs.Columns.{lengths}
 use Rattle.drift.specs.CornersPromise.{threeLengths}
 use Rattle.panel.specs.Promises.{lengthsOf}
-use Rattle.humoraki.specs.Promises.{ReadLent, AfterRead, WriteLent, AfterWrite, SegmentLent, AfterSegment, CornersLent, AfterCorners, PreviewLent, AfterPreview, ReportLent, AfterReport, AfterAdd, HeadRangesLent, AfterHeadRanges}
-use Rattle.humoraki.specs.Zero.{Accepted, read-zero, write-zero, segment-zero, corners-zero, preview-zero, report-zero, add-zero, head-ranges-zero}
+use Rattle.humoraki.specs.Promises.{ReadLent, AfterRead, WriteLent, AfterWrite, SegmentLent, AfterSegment, CornersLent, AfterCorners, PreviewLent, AfterPreview, LatestLent, AfterLatest, ReportLent, AfterReport, AfterAdd, HeadRangesLent, AfterHeadRanges}
+use Rattle.humoraki.specs.Zero.{Accepted, read-zero, write-zero, segment-zero, corners-zero, preview-zero, latest-zero, report-zero, add-zero, head-ranges-zero}
 
 -- the number of a call that tries its rows and then gives a result
 module _ {A : Type 0} (rows : List Row) (a : A) {answer : Answer A} (is : answer ≡ (firstRow rows >>= λ ok. accepted a)) {r : ℕ} where
@@ -98,6 +99,18 @@ module _ {v : Service} {ls : Lists} {range : Range} {old new : PreviewLent} {r :
 
   pub preview-none : (r ≡ 0) ↔ NoneHolds rows-of-preview
   preview-none = none-exactly rows-of-preview (effectOn v ls range) (preview-by-rows v ls range) (preview-zero after)
+
+module _ {v : Service} {ls : Lists} {old new : LatestLent} {r : ℕ} (after : AfterLatest v ls old new r) where
+  abbrev rows-of-latest : List Row
+  rows-of-latest = latestRows (threeLengths (old .ps) (old .qs) (old .ds)) v ls
+
+  pub latest-number : (n : ℕ) → 0 < n → (r ≡ n) ↔ FirstAt n rows-of-latest
+  unfolding latestCall
+  latest-number = exactly rows-of-latest (trendOf v (latestRun (rangesOf ls))) refl (after .number-is)
+
+  pub latest-none : (r ≡ 0) ↔ NoneHolds rows-of-latest
+  unfolding latestCall
+  latest-none = none-exactly rows-of-latest (trendOf v (latestRun (rangesOf ls))) refl (latest-zero after)
 
 module _ {file : List ℕ} {old new : ReportLent} {r : ℕ} (after : AfterReport file old new r) where
   abbrev rows-of-report : List Row

@@ -2,7 +2,7 @@
 --
 --     Accepted answer                                    the answer is accepted, with some result
 --     numberAnswer, counted-mean                         what a number and a count tell, 0 being acceptance; after a call with a count that is the call's answer
---     read-zero, write-zero, segment-zero, corners-zero, preview-zero, report-zero, add-zero, head-ranges-zero   of each call
+--     read-zero, write-zero, segment-zero, corners-zero, preview-zero, latest-zero, report-zero, add-zero, head-ranges-zero   of each call
 --
 -- Assumes nothing.
 use Prim.Native.Nat.{ℕ, zero, suc, _<_}
@@ -16,9 +16,10 @@ use Rattle.definitions.specs.Ranges.{Range, Lists, rangesOf}
 use Rattle.definitions.specs.Services.{Service}
 use Rattle.definitions.specs.Headers.{Header}
 use Rattle.definitions.specs.Answers.{Answer, refused, accepted, _>>=_, Row, _if_, firstRow, refusal, given}
-use Rattle.definitions.specs.Trial.{rangesRows, listRows, writeRows, segmentRows, cornerRows}
+use Rattle.definitions.specs.Trial.{rangesRows, listRows, writeRows, segmentRows, latestRows, cornerRows}
 use Rattle.definitions.specs.Calls.{writeCall, segmentCall, cornersCall}
 use Rattle.definitions.specs.Previews.{longer, previewRows}
+use Rattle.definitions.specs.Latest.{latestCall}
 use Rattle.definitions.specs.Report.{reportCall}
 use Rattle.definitions.specs.Panels.{Panel}
 use Rattle.definitions.specs.PanelCalls.{panelRows, addRows, addCall, headRangesCall}
@@ -30,7 +31,7 @@ use Rattle.trace_laws.specs.TraceLaws.{read-number}
 use Rattle.trace.specs.Promises.{writeInto}
 use Rattle.drift.specs.Columns.{lengths}
 use Rattle.panel.specs.AdmissionLaws.{all-numbered}
-use Rattle.humoraki.specs.Promises.{Counts, ReadLent, readAnswer, AfterRead, WriteLent, AfterWrite, SegmentLent, segmentAnswer, AfterSegment, CornersLent, cornersAnswer, AfterCorners, PreviewLent, previewAnswer, AfterPreview, ReportLent, reportAnswer, AfterReport, AfterAdd, HeadRangesLent, headRangesAnswer, AfterHeadRanges}
+use Rattle.humoraki.specs.Promises.{Counts, ReadLent, readAnswer, AfterRead, WriteLent, AfterWrite, SegmentLent, segmentAnswer, AfterSegment, CornersLent, cornersAnswer, AfterCorners, PreviewLent, previewAnswer, AfterPreview, LatestLent, latestAnswer, AfterLatest, ReportLent, reportAnswer, AfterReport, AfterAdd, HeadRangesLent, headRangesAnswer, AfterHeadRanges}
 
 abbrev pub Accepted : {A : Type 0} → Answer A → Type 0
 Accepted {A} answer = (a : A) × (answer ≡ accepted a)
@@ -89,6 +90,11 @@ corners-zero {k} {ls} {old} h =
 pub preview-zero : {v : Service} {ls : Lists} {r : Range} {old new : PreviewLent} {number : ℕ} → AfterPreview v ls r old new number → (number ≡ 0) ↔ Accepted (previewAnswer v ls r)
 preview-zero {v} {ls} {r} h =
     zero-exactly (previewAnswer v ls r) (λ n e. call-above (previewRows v ls r) (effectOn v ls r) (segment-numbered [] v (longer ls r)) n (sym (preview-by-rows v ls r) ∙ e)) (h .number-is)
+
+pub latest-zero : {v : Service} {ls : Lists} {old new : LatestLent} {r : ℕ} → AfterLatest v ls old new r → (r ≡ 0) ↔ Accepted (latestAnswer v ls old)
+unfolding latestCall latestRows listRows
+latest-zero {v} {ls} {old} h =
+    zero-exactly (latestAnswer v ls old) (call-above _ _ (omega arith, (omega arith, (omega arith, (omega arith, (omega arith, ranges-numbered none (rangesOf ls))))))) (h .number-is)
 
 pub report-zero : {file : List ℕ} {old new : ReportLent} {r : ℕ} → AfterReport file old new r → (r ≡ 0) ↔ Accepted (reportAnswer file old)
 unfolding reportCall

@@ -6,10 +6,11 @@ ghost use Rattle.definitions.specs.Results.{outlookNumbers};
 ghost use Rattle.drift.specs.Columns.{columns};
 ghost use Rattle.panel.specs.Promises.{addMeaning, headRangesMeaning};
 ghost use Rattle.values.specs.Meanings.{lineOf, outlookOf};
-ghost use Rattle.humoraki.specs.Promises.{Counts, AfterRead, AfterWrite, AfterSegment, AfterCorners, eight, AfterPreview, AfterReport, AfterAdd, AfterHeadRanges};
+ghost use Rattle.humoraki.specs.Promises.{Counts, AfterRead, AfterWrite, AfterSegment, AfterCorners, eight, AfterPreview, AfterLatest, AfterReport, AfterAdd, AfterHeadRanges};
 use definitions::entries::Entry;
 use drift::CornersAnswer;
 use drift::SegmentAnswer;
+use latest::LatestAnswer;
 use panel::AddAnswer;
 use panel::HeadRangesAnswer;
 use preview::PreviewAnswer;
@@ -221,6 +222,43 @@ pub extern "C" fn humoraki_preview(
             0
         }
         PreviewAnswer::Refused(number) => number,
+    }
+}
+
+// The latest trend of a trace: how many ranges it has, its outlook, its corners and their count. No range and one range are open, without corners.
+#[no_mangle]
+pub extern "C" fn humoraki_latest(
+    level: i32,
+    direction: u32,
+    times: &[u32],
+    lows: &[i32],
+    highs: &[i32],
+    ps: &mut [i64],
+    qs: &mut [i64],
+    ds: &mut [i64],
+    ranges: &mut usize,
+    slow_p: &mut i64,
+    slow_q: &mut i64,
+    slow_d: &mut i64,
+    fast_p: &mut i64,
+    fast_q: &mut i64,
+    fast_d: &mut i64,
+    some: &mut u64,
+    all: &mut u64,
+    corners: &mut usize,
+) -> u8
+    ensures { λ r. ⌜ AfterLatest (record { level = level; direction = direction }) (record { times = now (times .entry); lows = now (lows .entry); highs = now (highs .entry) }) (record { ps = now (ps .entry); qs = now (qs .entry); ds = now (ds .entry); ranges = now (ranges .entry); numbers = eight (now («slow_p» .entry)) (now («slow_q» .entry)) (now («slow_d» .entry)) (now («fast_p» .entry)) (now («fast_q» .entry)) (now («fast_d» .entry)) (now (some .entry)) (now (all .entry)); corners = now (corners .entry) }) (record { ps = now (ps .exit); qs = now (qs .exit); ds = now (ds .exit); ranges = now (ranges .exit); numbers = eight (now («slow_p» .exit)) (now («slow_q» .exit)) (now («slow_d» .exit)) (now («fast_p» .exit)) (now («fast_q» .exit)) (now («fast_d» .exit)) (now (some .exit)) (now (all .exit)); corners = now (corners .exit) }) r ⌝ }
+{
+    let answer = latest::latest(level, direction, times, lows, highs, ps, qs, ds);
+    match answer {
+        LatestAnswer::Accepted(trend) => {
+            let o = trend.outlook;
+            *ranges = trend.ranges;
+            tell_outlook(o, slow_p, slow_q, slow_d, fast_p, fast_q, fast_d, some, all);
+            *corners = trend.corners;
+            0
+        }
+        LatestAnswer::Refused(number) => number,
     }
 }
 

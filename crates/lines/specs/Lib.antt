@@ -14,5 +14,7 @@ pub mod MirroredFit
 pub mod MirroredOutlook
 pub mod Polygon
 pub mod MirroredCorners
+pub mod BackwardTimes
+pub mod LatestTrend
 pub mod RunOutlook
 pub mod Theorems

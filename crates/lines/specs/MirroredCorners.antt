@@ -2,6 +2,7 @@
 --
 --     TurnedRing first second    second is first negated, begun at its line of greatest slope
 --     ring-image, ring-back      so the lines of second are the images of the lines of first
+--     ring-length                and as many
 --     corners-mirrored           the corners of the image of two or more ranges that have a line are such a ring
 --
 -- What is below the diagonal by falling slope has its image above the diagonal by rising slope, and the other way round: so the ring is gone round the same way.
@@ -10,7 +11,9 @@ use mathlib.Core.Path.{_≡_, refl, sym, ap, _∙_, subst}
 use mathlib.Core.Logic.{inl, inr}
 use mathlib.Core.List.{List, [], _∷_, _++_, map, reverse, map-append, append-assoc, reverse-cons, reverse-append, reverse-reverse}
 use mathlib.Mathlib.Data.List.Basic.{map-reverseAux}
+use native.Mathlib.Omega.{arith}
 use lib.IntN.{pos, negℤ}
+use lib.ListN.{length, length-map, length-append}
 use lib.Signed.{_<ℤ_}
 use Rattle.integers.specs.OrderLaws.{neg-<}
 use Rattle.integers.specs.Quotes.{quotes, ring! }
@@ -124,6 +127,12 @@ module _ {first second : List Line} (ring : TurnedRing first second) where
   ring-back {x} i =
       let (y, k, e) = in-map-inv mirroredLine ((ring .fast ∷ ring .more) ++ ring .front) (subst (In x) (ring .second-is) i) in
       (y, subst (In y) (sym (ring .first-is)) (swap (ring .fast ∷ ring .more) (ring .front) k), e)
+
+pub ring-length : {first second : List Line} → TurnedRing first second → length second ≡ length first
+ring-length r =
+    ap length (r .second-is)
+    ∙ length-map ((r .fast ∷ r .more) ++ r .front) mirroredLine
+    ∙ omega (arith, length-append (r .fast ∷ r .more) (r .front), length-append (r .front) (r .fast ∷ r .more), ap length (r .first-is))
 
 -- ---- the corners
 module _ (r s : Range) (ws : List Range) (o : Ordered (r ∷ s ∷ ws)) (h : HasLine (r ∷ s ∷ ws)) where

@@ -3,6 +3,7 @@
 --     leading, trailing          of the slow and the fast line, the one that decides *some* and the other, that decides *all*: rising, the fast one leads; falling, the slow one
 --     first-last                 the first and the last of the fitting lines are the polygon's slow and fast line
 --     OutlookMeans, outlook-means   the slow line has the least slope of the whole fit and the fast line the greatest; *some* and *all* are the least times of the scope, over all lines of the fit, and each is the time of one line
+--     LinesOf, run-lines         the same of a run of two ranges or more, however it is given
 --     outlook-by-lines           the outlook is the polygon's two lines in lowest terms, with the time at which the leading one reaches the level and the time at which the trailing one does
 --
 -- Assumes nothing.
@@ -13,6 +14,7 @@ use Prim.Native.Nat.{ℕ, zero, suc, _≤_}
 use native.Mathlib.Omega.{arith}
 use lib.Dec.{T}
 use lib.IntN.{ℤ, negℤ}
+use lib.ListN.{length}
 use Rattle.integers.specs.OrderLaws.{<ℤ→≤ℤ, ≤ℤ-of-≡}
 use Rattle.integers.specs.Lists.{All, cons, Any, In, here, in-last, not-in-nil, All-in, All-imp}
 use Rattle.integers.specs.Least.{IsLeast, least-iff}
@@ -26,6 +28,7 @@ use Rattle.definitions.specs.Corners.{reduced, before, fitting}
 use Rattle.definitions.specs.Fit.{InFit, HasLine, Ordered, SameLine, Reached, SomeReached, AllReached}
 use Rattle.definitions.specs.Outlook.{someTime, allTime, Outlook, open-strip, lines, endTime, outlook, outlookOf}
 use Rattle.definitions.specs.Mirrors.{mirroredLine, mirroredRange, opposite, mirroredService, mirroredOutlook}
+use Rattle.splits.specs.OrderedRanges.{lastTimeOf}
 use Rattle.chains.specs.Points.{SlopeAtMost}
 use Rattle.chains.specs.Mirror.{negL-negL, neg-slope≤}
 use Rattle.chains.specs.Results.{slow, fast, cornerList, slow-fits, fast-fits, slow-least, fast-greatest, slow-only, fast-only, slow-listed, fast-listed, corners-fit, corners-candidates}
@@ -274,3 +277,18 @@ module _ (r s : Range) (ws : List Range) (o : Ordered (r ∷ s ∷ ws)) (h : Has
         as-is : (e : Direction) (k l : Line) → Restates k (reduced k) → Restates l (reduced l) → reachTime v from (leading e (reduced k) (reduced l)) ≡ reachTime v from (leading e k l)
         as-is rising k l a b = sym (reachTime-same v from b)
         as-is falling k l a b = sym (reachTime-same v from a)
+
+-- o is a slow line, a fast line and the two times of a run that ends at `from`
+pub record LinesOf (v : Service) (run : List Range) (from : ℕ) (o : Outlook) : Type 0 where
+  pub slow : Line
+  pub fast : Line
+  pub some : Time
+  pub all : Time
+  pub is : o ≡ lines slow fast some all
+  pub means : OutlookMeans v run from slow fast some all
+
+pub run-lines : (v : Service) → v .direction ≤ mostDirection → (run : List Range) → 2 ≤ length run → Ordered run → HasLine run → LinesOf v run (lastTimeOf run) (outlook v run)
+unfolding lastTimeOf endTime
+run-lines v known [] two o h = absurd (omega arith)
+run-lines v known (r ∷ []) two o h = absurd (omega arith)
+run-lines v known (r ∷ s ∷ ws) two o h = let (k, l, x, y, e, means) = outlook-means r s ws o h v known in record { slow = k; fast = l; some = x; all = y; is = e; means = means }

@@ -1,6 +1,5 @@
 -- What an accepted preview tells, case by case: on the way to the front page `PreviewTheorems`.
 --
---     LinesOf v run t o                o is a slow line, a fast line and the two times of a run that ends at t
 --     Taken, Joined, Begun answer      the answer is no refusal; the range joins the last segment; it begins one
 --     joins-is, begins-is, joins-not-begins   answers that are equal tell the same
 --     none-given                       where Preview accepted, no row holds
@@ -19,20 +18,19 @@ use lib.Dec.{T}
 use lib.ListN.{length, length-append}
 use Rattle.integers.specs.Booleans.{true→T, false→¬T}
 use Rattle.definitions.specs.Services.{Service}
-use Rattle.definitions.specs.Times.{Time}
 use Rattle.definitions.specs.Ranges.{Range, Lists, rangesOf}
-use Rattle.definitions.specs.Lines.{Line, hasLine}
+use Rattle.definitions.specs.Lines.{hasLine}
 use Rattle.definitions.specs.Fit.{HasLine, Ordered}
 use Rattle.definitions.specs.Splits.{lastRun}
 use Rattle.definitions.specs.Segments.{segments}
-use Rattle.definitions.specs.Outlook.{Outlook, open-strip, lines, outlook, endTime}
+use Rattle.definitions.specs.Outlook.{Outlook, open-strip, outlook, endTime}
 use Rattle.definitions.specs.Results.{Numbers, Segment, numbersOf, lastEight, outlookNumbers}
 use Rattle.definitions.specs.Answers.{accepted, _>>=_, firstRow}
 use Rattle.definitions.specs.Previews.{Effect, joins, begins, longer, previewRows}
 use Rattle.splits.specs.Cutting.{cut-nil, cut-not-empty, cut-last, cut-ends}
 use Rattle.splits.specs.OrderedRanges.{lastTimeOf, ordered-right, last-append}
 use Rattle.splits.specs.Effects.{grown, effectAfter, Next, next-joins, next-begins, next}
-use Rattle.lines.specs.RunOutlook.{OutlookMeans, outlook-means}
+use Rattle.lines.specs.RunOutlook.{LinesOf, run-lines}
 use Rattle.lines.specs.Theorems.{has-line}
 use Rattle.trial_laws.specs.Rows.{NoneHolds, first-row-accepted}
 use Rattle.trial_laws.specs.CallLaws.{call-accepted}
@@ -66,25 +64,10 @@ grown-two rs r h =
     let run = lastRun (segments rs) in
     omega (arith, length-append run (r ∷ []), cut-not-empty hasLine rs (dropLast (segments rs)) run [] (cut-last hasLine rs h))
 
--- o is a slow line, a fast line and the two times of a run that ends at `from`
-pub record LinesOf (v : Service) (run : List Range) (from : ℕ) (o : Outlook) : Type 0 where
-  pub slow : Line
-  pub fast : Line
-  pub some : Time
-  pub all : Time
-  pub is : o ≡ lines slow fast some all
-  pub means : OutlookMeans v run from slow fast some all
-
-run-lines : (v : Service) → GoodService v → (run : List Range) → 2 ≤ length run → Ordered run → HasLine run → LinesOf v run (lastTimeOf run) (outlook v run)
-unfolding lastTimeOf endTime
-run-lines v good [] two o h = absurd (omega arith)
-run-lines v good (r ∷ []) two o h = absurd (omega arith)
-run-lines v good (r ∷ s ∷ ws) two o h = let (k, l, x, y, e, means) = outlook-means r s ws o h v (good .direction-in) in record { slow = k; fast = l; some = x; all = y; is = e; means = means }
-
 grown-outlook : (v : Service) → GoodService v → (rs : List Range) (r : Range) → 0 < length rs → Ordered (rs ++ (r ∷ [])) → HasLine (grown rs r) → LinesOf v (grown rs r) (r .time) (outlook v (grown rs r))
 unfolding lastTimeOf endTime
 grown-outlook v good rs r h o line =
-    subst (λ t. LinesOf v (grown rs r) t (outlook v (grown rs r))) (last-append (lastRun (segments rs)) r []) (run-lines v good (grown rs r) (grown-two rs r h) (grown-ordered rs r o) line)
+    subst (λ t. LinesOf v (grown rs r) t (outlook v (grown rs r))) (last-append (lastRun (segments rs)) r []) (run-lines v (good .direction-in) (grown rs r) (grown-two rs r h) (grown-ordered rs r o) line)
 
 -- ---- the effect given
 

@@ -38,6 +38,7 @@ use Rattle.definitions.specs.Answers.{refused, accepted}
 use Rattle.definitions.specs.Trial.{tooShort}
 use Rattle.definitions.specs.Previews.{Effect, joins, begins, longer, effectOutlook, previewRows}
 use Rattle.splits.specs.Effects.{grown, effectAfter, effects, begunIn, lastOutlooks, segmentsOf-length, effects-begun}
+use Rattle.lines.specs.RunOutlook.{LinesOf}
 use Rattle.trial_laws.specs.Rows.{NoneHolds, FirstAt, refused-not-accepted}
 use Rattle.drift.specs.declared.SegmentAnswer.{SegmentAnswer}
 use Rattle.drift.specs.declared.SegmentAnswer.the-variants.{Accepted}
@@ -49,7 +50,7 @@ use Rattle.preview.specs.declared.PreviewAnswer.{PreviewAnswer}
 use Rattle.preview.specs.declared.PreviewAnswer.the-variants.{Refused}
 use Rattle.preview.specs.PreviewPromise.{previewMeaning, PreviewPromise}
 use Rattle.preview.specs.Refusals.{preview-refused}
-use Rattle.preview.specs.GivenEffects.{LinesOf, Taken, Joined, Begun, joins-is, begins-is, joins-not-begins, Given, given-joins, given-begins, given, none-given, effect-given, LastEight, numbers-told}
+use Rattle.preview.specs.GivenEffects.{Taken, Joined, Begun, joins-is, begins-is, joins-not-begins, Given, given-joins, given-begins, given, none-given, effect-given, LastEight, numbers-told}
 use Rattle.preview.specs.Agreement.{rows-same, none-meant, longer-some, last-told, kinds}
 use Rattle.preview.specs.Courses.{Course, effectsIn, course-meanings, course-effects, course-told}
 

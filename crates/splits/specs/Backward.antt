@@ -1,6 +1,7 @@
 -- Cutting from the end: the same list read backward, with the same test on each run in its own order, gives as many runs as cutting from the start.
 --
 --     turned                   runs read backward: the last one first, and each from its end
+--     run-turned               a good run, read backward, is a run of which the same holds read backward
 --     split-turned             the runs of a split, turned, are a split of the list read backward
 --     decides-turned           a test that decides a property decides it of runs read backward
 --     cut-back                 cutting from the end gives as many runs as cutting from the start
@@ -35,7 +36,7 @@ module _ {A : Type 0} where
 
   -- ---- splits
   module _ (Good : List A → Type 0) where
-    run-turned : (run : List A) → GoodRun Good run → GoodRun (λ l. Good (reverse l)) (reverse run)
+    pub run-turned : (run : List A) → GoodRun Good run → GoodRun (λ l. Good (reverse l)) (reverse run)
     run-turned [] g = absurd g
     run-turned (x ∷ xs) g =
         let back = sym (reverse-reverse (x ∷ xs)) ∙ ap reverse (reverse-cons x xs) in

@@ -2,6 +2,7 @@ pub mod Runs
 pub mod Cutting
 pub mod Greedy
 pub mod Backward
+pub mod LatestRuns
 pub mod Limited
 pub mod OrderedRanges
 pub mod RunTimes

@@ -4,7 +4,7 @@
 --     longer-mirrored         the image of lists with a range more is the image of the lists with the image of the range more
 --     service-mirrored        the image of a service has a value outside its span exactly if the service has
 --     trial-mirrored          the trial that all calls share gives the same answer
---     segment-trial-mirrored, corner-trial-mirrored   so do the rows of Segment and of Corners
+--     segment-trial-mirrored, latest-trial-mirrored, corner-trial-mirrored   so do the rows of Segment, of Latest and of Corners
 --
 -- A low that is outside has a high that is outside for its image; both have the number 4, so it does not matter that the one is tried before the other.
 -- Assumes nothing.
@@ -22,11 +22,11 @@ use Rattle.definitions.specs.Services.{Service}
 use Rattle.definitions.specs.Times.{Time, none, at}
 use Rattle.definitions.specs.Ranges.{Range, Lists, zipRanges, rangesOf}
 use Rattle.definitions.specs.Answers.{Row, _if_, _>>=_, firstRow}
-use Rattle.definitions.specs.Trial.{outside, badDirection, notAbove, rangeRows, rangesRows, tooShort, differ, segmentRows, cornerRows}
+use Rattle.definitions.specs.Trial.{outside, badDirection, notAbove, rangeRows, rangesRows, tooShort, differ, segmentRows, latestRows, cornerRows}
 use Rattle.definitions.specs.Previews.{longer}
 use Rattle.definitions.specs.Mirrors.{mirroredRange, mirroredLists, opposite, mirroredService}
 use Rattle.trial_laws.specs.Rows.{first-row-append, first-row-rest}
-use Rattle.trial_laws.specs.ListTrial.{trialRows, badService, segment-trial, countRows, corner-trial}
+use Rattle.trial_laws.specs.ListTrial.{trialRows, badService, segment-trial, latest-trial, countRows, corner-trial}
 
 -- ---- lists
 
@@ -102,14 +102,17 @@ trial-mirrored short bad ls =
     ap₂ (λ d rs. firstRow (8 if short ∷ 10 if d ∷ 7 if ltb mostRanges (length (ls .times)) ∷ 4 if bad ∷ rangesRows none rs)) (differ-mirrored ls) (ranges-mirrored ls)
     ∙ first-row-rest first (rangesRows none (map mirroredRange (rangesOf ls))) (rangesRows none (rangesOf ls)) (ranges-rows-mirrored none (rangesOf ls))
 
+service-trial-mirrored : (v : Service) (ls : Lists) {short short′ : Bool} → short′ ≡ short → firstRow (trialRows short′ (badService (mirroredService v)) (mirroredLists ls)) ≡ firstRow (trialRows short (badService v) ls)
+service-trial-mirrored v ls {short} {short′} alike =
+    trial-mirrored short′ (badService (mirroredService v)) ls ∙ ap₂ (λ short bad. firstRow (trialRows short bad ls)) alike (service-mirrored v)
+
 -- the two calls may be lent slices of other lengths, as long as both have room or neither has
 module _ (ls : Lists) (lengths lengths′ : List ℕ) where
   pub segment-trial-mirrored : (v : Service) → tooShort segmentRoom lengths′ ≡ tooShort segmentRoom lengths → firstRow (segmentRows lengths′ (mirroredService v) (mirroredLists ls)) ≡ firstRow (segmentRows lengths v ls)
-  segment-trial-mirrored v alike =
-      segment-trial lengths′ (mirroredService v) (mirroredLists ls)
-      ∙ trial-mirrored (tooShort segmentRoom lengths′) (badService (mirroredService v)) ls
-      ∙ ap₂ (λ short bad. firstRow (trialRows short bad ls)) alike (service-mirrored v)
-      ∙ sym (segment-trial lengths v ls)
+  segment-trial-mirrored v alike = segment-trial lengths′ (mirroredService v) (mirroredLists ls) ∙ service-trial-mirrored v ls alike ∙ sym (segment-trial lengths v ls)
+
+  pub latest-trial-mirrored : (v : Service) → tooShort cornerRoom lengths′ ≡ tooShort cornerRoom lengths → firstRow (latestRows lengths′ (mirroredService v) (mirroredLists ls)) ≡ firstRow (latestRows lengths v ls)
+  latest-trial-mirrored v alike = latest-trial lengths′ (mirroredService v) (mirroredLists ls) ∙ service-trial-mirrored v ls alike ∙ sym (latest-trial lengths v ls)
 
   pub corner-trial-mirrored : (k : ℕ) → tooShort cornerRoom lengths′ ≡ tooShort cornerRoom lengths → firstRow (cornerRows lengths′ k (mirroredLists ls)) ≡ firstRow (cornerRows lengths k ls)
   corner-trial-mirrored k alike =

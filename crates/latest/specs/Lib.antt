@@ -1,0 +1,11 @@
+pub mod LatestPromise
+pub mod ReadBackward
+pub mod LatestStarts
+pub mod FoundTrends
+pub mod LatestPromiseLaws
+pub mod Refusals
+pub mod GivenTrends
+pub mod LatestTheorems
+pub mod CutFromEnd
+pub mod Mirror
+pub mod AgainstSegment
