@@ -225,8 +225,8 @@ uint8_t humoraki_preview(int32_t level, uint32_t direction,
  * corners                 set to the number of corners; 0 says that the run is open
  *
  * Lists without ranges have a run of 0 ranges. Such a run is open, as one of a single range is: the eight numbers from
- * slow_p to all are set to 0, and there are no corners. Any two ranges have a line, so with more of them the run has at
- * least two, and is not open. The d of a line is above 0.
+ * slow_p to all are set to 0, and there are no corners. Any two ranges have a line, so where the lists have two or more,
+ * the run has at least two, and is not open. The d of a line is above 0.
  *
  * Refusals: 8, 10, 7, level and direction 4, then range by range 4, 5, 6.
  */

@@ -2,7 +2,7 @@
 --
 --     latestBy               the longest end of a list that passes a test: the ends are tried from the whole list on
 --     latestRun              the longest run at the end of a trace that some line fits; an empty trace has a run of no range
---     Trend, trendOf         what is told of a run: its number of ranges, its outlook and its corners. No range at all is open and has no corners, as one range is and has
+--     Trend, trendOf         what is told of a run: its number of ranges, its outlook and its corners. A run of no range is open and has no corners, and so it is with one of a single range
 --     latestCall             Latest: the trend of the latest run
 --
 -- Assumes nothing.

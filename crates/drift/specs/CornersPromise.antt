@@ -13,7 +13,6 @@ use mathlib.Core.List.{List, [], _∷_, map}
 use lib.IntN.{ℤ}
 use lib.ListN.{length}
 use Rattle.definitions.specs.Ranges.{Lists}
-use Rattle.definitions.specs.Lines.{Line}
 use Rattle.definitions.specs.Answers.{Answer, refused, accepted, _>>=_, filled}
 use Rattle.definitions.specs.Calls.{Fit, open-strip, bounded, cornersIn, cornersCall}
 use Rattle.drift.specs.declared.CornersAnswer.{CornersAnswer}

@@ -10,12 +10,11 @@
 use mathlib.Core.Path.{_≡_, refl, sym, ap, _∙_}
 use mathlib.Core.List.{List, [], _∷_, map}
 use Prim.Native.Nat.{ℕ}
-use lib.ListN.{length, take}
+use lib.ListN.{take}
 use Rattle.integers.specs.Images.{take-map}
 use Rattle.definitions.specs.Spans.{segmentRoom, cornerRoom}
 use Rattle.definitions.specs.Services.{Service}
 use Rattle.definitions.specs.Ranges.{Range, Lists, rangesOf}
-use Rattle.definitions.specs.Lines.{Line}
 use Rattle.definitions.specs.Fit.{HasLine, Ordered}
 use Rattle.definitions.specs.Splits.{GoodRun, lastRun}
 use Rattle.definitions.specs.Segments.{segments, runningAfter}
@@ -24,7 +23,7 @@ use Rattle.definitions.specs.Results.{Segment, segmentsOf, slowLine, fastLine, 
 use Rattle.definitions.specs.Answers.{accepted, _>>=_, firstRow}
 use Rattle.definitions.specs.Trial.{tooShort, segmentRows, cornerRows}
 use Rattle.definitions.specs.Calls.{fitOf, segmentCall, cornersCall}
-use Rattle.definitions.specs.Mirrors.{mirroredLine, mirroredRange, mirroredLists, mirroredService, mirroredOutlook, mirroredSegment, mirroredNumbers}
+use Rattle.definitions.specs.Mirrors.{mirroredRange, mirroredLists, mirroredService, mirroredOutlook, mirroredSegment, mirroredNumbers}
 use Rattle.splits.specs.Cutting.{lastRun-map}
 use Rattle.trial_laws.specs.CallLaws.{then-then, then-known}
 use Rattle.trial_laws.specs.Accepted.{segment-accepted}

@@ -14,16 +14,16 @@ use native.Mathlib.Omega.{arith}
 use lib.ListN.{length}
 use Rattle.definitions.specs.Ranges.{Range, Lists, rangesOf}
 use Rattle.definitions.specs.Lines.{Line}
-use Rattle.definitions.specs.Fit.{InCornerOrder, single, around}
 use Rattle.definitions.specs.Segments.{runningAfter}
 use Rattle.definitions.specs.Answers.{accepted, _>>=_, given}
 use Rattle.definitions.specs.Trial.{cornerRows}
 use Rattle.definitions.specs.Calls.{Fit, open-strip, bounded, fitOf, cornersIn, cornersCall}
 use Rattle.trial_laws.specs.CallLaws.{call-accepted, accepted-is}
+use Rattle.lines.specs.Theorems.{corners-some}
 use Rattle.drift.specs.declared.CornersAnswer.{CornersAnswer}
 use Rattle.drift.specs.declared.CornersAnswer.the-variants.{Corners, Open}
 use Rattle.drift.specs.CornersPromise.{countOf, cornersMeaning, threeLengths, CornersPromise}
-use Rattle.drift.specs.CornerTheorems.{given-corners, given-count, given-ordered, open-one}
+use Rattle.drift.specs.CornerTheorems.{given-corners, given-about, given-count, open-one}
 use Rattle.humoraki.specs.Promises.{CornersLent, cornersAnswer, AfterCorners}
 use Rattle.humoraki.specs.Zero.{Accepted, corners-zero}
 
@@ -36,11 +36,6 @@ answer-means : (fit : Fit) → cornersMeaning (answerOf fit) ≡ accepted (count
 unfolding answerOf cornersMeaning countOf
 answer-means open-strip = refl
 answer-means (bounded ks) = refl
-
--- a list in corner order is never empty
-order-some : {ks : List Line} → InCornerOrder ks → 0 < length ks
-order-some (single l) = omega arith
-order-some (around slow above fast below rising falling over under) = omega arith
 
 one-open : (rs : List Range) → length rs ≡ 1 → fitOf rs ≡ open-strip
 unfolding fitOf
@@ -63,7 +58,7 @@ module _ {k : ℕ} {ls : Lists} {old new : CornersLent} {number : ℕ} (after : 
   unfolding answerOf
   bounded-some ks e =
       let below : CornersPromise k ls (old .ps) (old .qs) (old .ds) (new .ps) (new .qs) (new .ds) (Corners (length ks)) = promise-below e in
-      omega (arith, given-count below .0, ap length (given-corners below), order-some (given-ordered below))
+      omega (arith, given-count below .0, ap length (given-corners below), given-about below (λ rs ks. 0 < length ks) (λ r s ws o h. corners-some r s ws o h))
 
   bounded-more : (ks : List Line) → cornersAnswer k ls old ≡ accepted (bounded ks) → length segment ≡ 1 → open-strip ≡ bounded ks
   unfolding cornersCall

@@ -9,14 +9,15 @@ use Prim.Native.Nat.{ℕ, zero, suc, _<_}
 use mathlib.Core.Path.{_≡_, refl, sym, ap, _∙_}
 use mathlib.Core.Logic.{_↔_}
 use mathlib.Core.Bool.{true, false}
-use mathlib.Core.List.{List, [], _∷_}
+use mathlib.Core.List.{List, [], _∷_, _++_}
 use native.Mathlib.Omega.{arith}
+use Rattle.definitions.specs.Spans.{segmentRoom, cornerRoom}
 use Rattle.definitions.specs.Times.{none}
 use Rattle.definitions.specs.Ranges.{Range, Lists, rangesOf}
 use Rattle.definitions.specs.Services.{Service}
 use Rattle.definitions.specs.Headers.{Header}
 use Rattle.definitions.specs.Answers.{Answer, refused, accepted, _>>=_, Row, _if_, firstRow, refusal, given}
-use Rattle.definitions.specs.Trial.{rangesRows, listRows, writeRows, segmentRows, latestRows, cornerRows}
+use Rattle.definitions.specs.Trial.{rangesRows, serviceRows, listRows, writeRows, segmentRows, latestRows, cornerRows}
 use Rattle.definitions.specs.Calls.{writeCall, segmentCall, cornersCall}
 use Rattle.definitions.specs.Previews.{longer, previewRows}
 use Rattle.definitions.specs.Latest.{latestCall}
@@ -30,6 +31,7 @@ use Rattle.trial_laws.specs.LongerLists.{effectOn, preview-by-rows}
 use Rattle.trace_laws.specs.TraceLaws.{read-number}
 use Rattle.trace.specs.Promises.{writeInto}
 use Rattle.drift.specs.Columns.{lengths}
+use Rattle.drift.specs.CornersPromise.{threeLengths}
 use Rattle.panel.specs.AdmissionLaws.{all-numbered}
 use Rattle.humoraki.specs.Promises.{Counts, ReadLent, readAnswer, AfterRead, WriteLent, AfterWrite, SegmentLent, segmentAnswer, AfterSegment, CornersLent, cornersAnswer, AfterCorners, PreviewLent, previewAnswer, AfterPreview, LatestLent, latestAnswer, AfterLatest, ReportLent, reportAnswer, AfterReport, AfterAdd, HeadRangesLent, headRangesAnswer, AfterHeadRanges}
 
@@ -74,9 +76,13 @@ unfolding writeCall writeRows listRows
 write-zero {h} {ls} {old} after =
     zero-exactly (writeInto (old .file) h ls) (call-above _ _ (omega arith, (omega arith, (omega arith, (omega arith, (omega arith, (omega arith, ranges-numbered none (rangesOf ls)))))))) (after .counted .number-is)
 
+service-numbered : (least : ℕ) (lengths : List ℕ) (v : Service) (ls : Lists) → Numbered (listRows least lengths ls ++ serviceRows v ++ rangesRows none (rangesOf ls))
+unfolding listRows
+service-numbered least lengths v ls = (omega arith, (omega arith, (omega arith, (omega arith, (omega arith, ranges-numbered none (rangesOf ls))))))
+
 segment-numbered : (lengths : List ℕ) (v : Service) (ls : Lists) → Numbered (segmentRows lengths v ls)
-unfolding segmentRows listRows
-segment-numbered lengths v ls = (omega arith, (omega arith, (omega arith, (omega arith, (omega arith, ranges-numbered none (rangesOf ls))))))
+unfolding segmentRows
+segment-numbered = service-numbered segmentRoom
 
 pub segment-zero : {v : Service} {ls : Lists} {old new : SegmentLent} {r : ℕ} → AfterSegment v ls old new r → (r ≡ 0) ↔ Accepted (segmentAnswer v ls old)
 unfolding segmentCall
@@ -92,9 +98,8 @@ preview-zero {v} {ls} {r} h =
     zero-exactly (previewAnswer v ls r) (λ n e. call-above (previewRows v ls r) (effectOn v ls r) (segment-numbered [] v (longer ls r)) n (sym (preview-by-rows v ls r) ∙ e)) (h .number-is)
 
 pub latest-zero : {v : Service} {ls : Lists} {old new : LatestLent} {r : ℕ} → AfterLatest v ls old new r → (r ≡ 0) ↔ Accepted (latestAnswer v ls old)
-unfolding latestCall latestRows listRows
-latest-zero {v} {ls} {old} h =
-    zero-exactly (latestAnswer v ls old) (call-above _ _ (omega arith, (omega arith, (omega arith, (omega arith, (omega arith, ranges-numbered none (rangesOf ls))))))) (h .number-is)
+unfolding latestCall latestRows
+latest-zero {v} {ls} {old} h = zero-exactly (latestAnswer v ls old) (call-above _ _ (service-numbered cornerRoom (threeLengths (old .ps) (old .qs) (old .ds)) v ls)) (h .number-is)
 
 pub report-zero : {file : List ℕ} {old new : ReportLent} {r : ℕ} → AfterReport file old new r → (r ≡ 0) ↔ Accepted (reportAnswer file old)
 unfolding reportCall

@@ -1,7 +1,8 @@
 -- Latest against Segment on the same lists: theorems about what both calls give.
 --
+--     rows-same              where the slices of both are long enough, both have the same rows
 --     agrees-refused         where the slices of both are long enough, Latest is refused with n exactly if Segment is
---     covers-last            the latest run has at least as many ranges as the last segment: it begins no later
+--     covers-last            the latest run has at least as many ranges as the last segment
 --     agrees-outlook         where it has as many, its outlook has the last eight numbers of the last row
 --
 -- Assumes nothing.
@@ -22,10 +23,9 @@ use Rattle.definitions.specs.Fit.{HasLine}
 use Rattle.definitions.specs.Splits.{GoodRuns, lastRun}
 use Rattle.definitions.specs.Segments.{segments}
 use Rattle.definitions.specs.Outlook.{outlook}
-use Rattle.definitions.specs.Results.{segmentOf, segmentsOf, numbersOf, outlookNumbers, lastEight}
+use Rattle.definitions.specs.Results.{segmentOf, numbersOf, outlookNumbers, lastEight}
 use Rattle.definitions.specs.Answers.{refused}
 use Rattle.definitions.specs.Trial.{tooShort, listRows, segmentRows, latestRows}
-use Rattle.definitions.specs.Latest.{trendOf}
 use Rattle.trial_laws.specs.Rows.{FirstAt}
 use Rattle.trial_laws.specs.RangeLists.{ranges-length}
 use Rattle.splits.specs.Effects.{segmentsOf-length}
@@ -47,9 +47,9 @@ use Rattle.latest.specs.declared.LatestAnswer.{LatestAnswer}
 use Rattle.latest.specs.declared.LatestAnswer.the-variants.{Accepted}
 use Rattle.latest.specs.LatestPromise.{latestMeaning, LatestPromise}
 use Rattle.latest.specs.Refusals.{latest-refused}
-use Rattle.latest.specs.GivenTrends.{lastRanges, taken, ordered, trend-is, run-is, run-length}
+use Rattle.latest.specs.GivenTrends.{lastRanges, taken, ordered, run-is, run-length, told-outlook}
 
-rows-same : (ns ms : List ℕ) (v : Service) (ls : Lists) → tooShort cornerRoom ns ≡ false → tooShort segmentRoom ms ≡ false → latestRows ns v ls ≡ segmentRows ms v ls
+pub rows-same : (ns ms : List ℕ) (v : Service) (ls : Lists) → tooShort cornerRoom ns ≡ false → tooShort segmentRoom ms ≡ false → latestRows ns v ls ≡ segmentRows ms v ls
 unfolding latestRows segmentRows listRows
 rows-same ns ms v ls e f = rw (e, f) refl
 
@@ -116,9 +116,5 @@ module _ {v : Service} {ls : Lists} {ps qs ds ps′ qs′ ds′ : List ℤ} {t :
       let n : length front ≡ k = omega (arith, ap length ends, length-append front (lastRun runs), ranges-length ls (taken promise .same), sym same ∙ ap (λ n. n .count) last-row ∙ row-count (lastRun runs)) in
       sym (ap (drop k) (sym ends) ∙ drop-at front (lastRun runs) k n)
 
-  told-outlook : outlook v (lastRanges (t .ranges) ls) ≡ outlookOf (t .outlook)
-  unfolding trendOf
-  told-outlook = ap (outlook v) (run-is promise) ∙ ap (λ x. x .outlook) (sym (trend-is promise))
-
   pub agrees-outlook : rowAt new (m - 1) .count ≡ t .ranges → lastEight (rowAt new (m - 1)) ≡ outlookNumbers (outlookOf (t .outlook))
-  agrees-outlook same = ap lastEight last-row ∙ row-eight (lastRun runs) ∙ ap outlookNumbers (ap (outlook v) (same-run same) ∙ told-outlook)
+  agrees-outlook same = ap lastEight last-row ∙ row-eight (lastRun runs) ∙ ap outlookNumbers (ap (outlook v) (same-run same) ∙ sym (told-outlook promise))

@@ -2,14 +2,14 @@
 --
 --     Ready              where no row holds and there are two ranges or more: what finding the trend takes
 --     TrendGiven         the trend that is told, and the corners in the slices
---     fit-corners        two ranges or more have corners
---     end-is, polygon-at, line-at   the run that begins where the latest run does goes up to the last range: its end, its polygon, and that it has a line
+--     fit-corners, short-open   two ranges or more have corners; fewer are open, without corners
+--     polygon-at, line-at   the run that begins where the latest run does goes up to the last range: its polygon, and that it has a line
 --     trend-given        what its outlook and its listed corners tell is the trend
 --
 -- Assumes nothing.
 use mathlib.Core.Path.{_≡_, refl, sym, ap, _∙_, subst}
 use mathlib.Core.List.{List, [], _∷_}
-use Prim.Native.Nat.{ℕ, _+_, _-_, _≤_}
+use Prim.Native.Nat.{ℕ, _+_, _-_, _<_, _≤_}
 use native.Mathlib.Nat.{le-refl}
 use native.Mathlib.Omega.{arith}
 use lib.IntN.{ℤ}
@@ -20,7 +20,7 @@ use Rattle.definitions.specs.Ranges.{Range, Lists, rangesOf}
 use Rattle.definitions.specs.Fit.{HasLine}
 use Rattle.definitions.specs.Corners.{corners}
 use Rattle.definitions.specs.Calls.{fitOf, cornersIn}
-use Rattle.definitions.specs.Outlook.{outlook}
+use Rattle.definitions.specs.Outlook.{open-strip, outlook}
 use Rattle.definitions.specs.Latest.{latestRun, trendOf}
 use Rattle.trial_laws.specs.RangeLists.{ranges-length}
 use Rattle.trial_laws.specs.Accepted.{AcceptedLists}
@@ -28,7 +28,7 @@ use Rattle.splits.specs.Runs.{good-run}
 use Rattle.lines.specs.LatestTrend.{latest-has-line}
 use Rattle.drift_laws.specs.ChainParts.{Chain}
 use Rattle.drift_laws.specs.LineRows.{RowRoom, RowsFirst}
-use Rattle.drift_laws.specs.RunsByPlace.{run, run-two, run-length}
+use Rattle.drift_laws.specs.RunsByPlace.{run, run-length}
 use Rattle.values.specs.declared.Outlook.{Outlook}
 use Rattle.values.specs.Meanings.{lineOf, outlookOf}
 use Rattle.values.specs.Reach.{lookAhead}
@@ -56,6 +56,12 @@ fit-corners [] h = absurd (omega arith)
 fit-corners (r ∷ []) h = absurd (omega arith)
 fit-corners (r ∷ s ∷ rs) h = refl
 
+pub short-open : (v : Service) (rs : List Range) → length rs < 2 → (outlook v rs ≡ open-strip) × (cornersIn (fitOf rs) ≡ [])
+unfolding outlook fitOf cornersIn
+short-open v [] h = (refl, refl)
+short-open v (r ∷ []) h = (refl, refl)
+short-open v (r ∷ s ∷ rs) h = absurd (omega arith)
+
 module _ {v : Service} {ls : Lists} (tried : Tried v ls) (more : 2 ≤ length (ls .times)) {s : ℕ} (z : LatestStart ls s) {up down : Chain} {r : Reach} (f : RunFrom ls s (length (ls .times)) up down r) where
   abbrev n : ℕ
   n = length (ls .times)
@@ -70,7 +76,7 @@ module _ {v : Service} {ls : Lists} (tried : Tried v ls) (more : 2 ≤ length (l
   line-at =
       subst HasLine (z .run-is) (good-run HasLine (latestRun (rangesOf ls)) (latest-has-line (rangesOf ls) (a .ranges .ordered) (omega (arith, more, ranges-length ls (a .same)))))
 
-  pub end-is : r .end ≡ n
+  end-is : r .end ≡ n
   end-is = run-whole a (le-refl n) line-at f
 
   pub polygon-at : PolygonAt ls up down s n (r .polygon)

@@ -2,25 +2,27 @@
 --
 --     lastRanges n ls        the last n ranges of the lists
 --     slices                 what the three slices hold, by the call's result
---     taken-rows, taken-good, taken, ordered   no row held: the service is good, the lists are acceptable, and their times rise
+--     taken-good, taken, taken-few, ordered   no row held: the service is good, the lists are acceptable and have at most 4,096 ranges, and their times rise
 --     trend-is, called       the trend that is told, and the call's result
 --     run-is                 the last ranges, as many as are told, are the latest run
 --     run-length, run-ordered, run-good   how many they are, that their times rise, and that some line fits them if there are any
+--     told-outlook           the outlook that is told is theirs
 --
 -- Assumes nothing.
-use mathlib.Core.Path.{_≡_, refl, sym, ap, _∙_, subst}
+use mathlib.Core.Path.{_≡_, sym, ap, _∙_, subst}
 use mathlib.Core.Bool.{false}
-use mathlib.Core.List.{List, _++_}
+use mathlib.Core.List.{List}
 use Prim.Native.Nat.{ℕ, _-_, _<_, _≤_}
 use native.Mathlib.Omega.{arith}
 use lib.IntN.{ℤ}
-use lib.ListN.{length, take, drop, length-append}
+use lib.ListN.{length, take, drop}
 use lib.Seq.{drop-at, length-take-le}
 use Rattle.definitions.specs.Spans.{mostRanges, cornerRoom}
 use Rattle.definitions.specs.Services.{Service}
 use Rattle.definitions.specs.Ranges.{Range, Lists, rangesOf}
 use Rattle.definitions.specs.Fit.{HasLine, Ordered}
 use Rattle.definitions.specs.Splits.{GoodRun}
+use Rattle.definitions.specs.Outlook.{outlook}
 use Rattle.definitions.specs.Answers.{accepted, _>>=_, firstRow}
 use Rattle.definitions.specs.Trial.{tooShort, latestRows}
 use Rattle.definitions.specs.Latest.{latestRun, trendOf, latestCall, Trend as TrendTerm}
@@ -29,13 +31,14 @@ use Rattle.trial_laws.specs.CallLaws.{both-accepted, call-accepted, accepted-is
 use Rattle.trial_laws.specs.RangeLists.{ranges-length}
 use Rattle.trial_laws.specs.Accepted.{GoodService, AcceptedLists, latest-accepted}
 use Rattle.splits.specs.OrderedRanges.{ordered-right}
-use Rattle.lines.specs.LatestTrend.{restOf, latest-end, latest-has-line}
+use Rattle.lines.specs.LatestTrend.{restOf, latest-suffix, latest-has-line}
+use Rattle.values.specs.Meanings.{outlookOf}
 use Rattle.drift.specs.GivenLines.{LinesFilled}
 use Rattle.drift.specs.CornersPromise.{threeLengths}
 use Rattle.latest.specs.declared.Trend.{Trend}
 use Rattle.latest.specs.declared.LatestAnswer.{LatestAnswer}
 use Rattle.latest.specs.declared.LatestAnswer.the-variants.{Accepted}
-use Rattle.latest.specs.LatestPromise.{Told, toldOf, trendMeaning, latestMeaning, LatestPromise}
+use Rattle.latest.specs.LatestPromise.{toldOf, trendMeaning, latestMeaning, LatestPromise}
 
 abbrev pub lastRanges : ℕ → Lists → List Range
 lastRanges n ls = drop (length (ls .times) - n) (rangesOf ls)
@@ -51,7 +54,7 @@ module _ {v : Service} {ls : Lists} {ps qs ds ps′ qs′ ds′ : List ℤ} {t :
   abbrev rs : List Range
   rs = rangesOf ls
 
-  pub taken-rows : firstRow (latestRows ns v ls) ≡ accepted tt
+  taken-rows : firstRow (latestRows ns v ls) ≡ accepted tt
   unfolding latestMeaning latestCall
   taken-rows = both-accepted (latestCall ns v ls) (λ t. accepted (toldOf t)) (trendMeaning t) (sym (promise .answer-is)) (λ x e f. passed x e)
     where
@@ -87,15 +90,19 @@ module _ {v : Service} {ls : Lists} {ps qs ds ps′ qs′ ds′ : List ℤ} {t :
 
   pub run-is : lastRanges (t .ranges) ls ≡ latestRun rs
   run-is =
-      let (whole, few) = latest-end rs in
+      let (whole, few) = latest-suffix rs in
       let n : length (ls .times) - t .ranges ≡ restOf rs = omega (arith, ranges-length ls (taken .same), ranges-is) in
       ap (λ i. drop i rs) n ∙ ap (drop (restOf rs)) whole ∙ drop-at (take (restOf rs) rs) (latestRun rs) (restOf rs) (length-take-le (restOf rs) rs (omega arith))
 
   pub run-length : (length (lastRanges (t .ranges) ls) ≡ t .ranges) × (t .ranges ≤ length (ls .times))
-  run-length = (ap length run-is ∙ sym ranges-is, omega (arith, ranges-is, latest-end rs .1, ranges-length ls (taken .same)))
+  run-length = (ap length run-is ∙ sym ranges-is, omega (arith, ranges-is, latest-suffix rs .1, ranges-length ls (taken .same)))
 
   pub run-ordered : Ordered (lastRanges (t .ranges) ls)
-  run-ordered = subst Ordered (sym run-is) (ordered-right (take (restOf rs) rs) (latestRun rs) (subst Ordered (latest-end rs .0) ordered))
+  run-ordered = subst Ordered (sym run-is) (ordered-right (take (restOf rs) rs) (latestRun rs) (subst Ordered (latest-suffix rs .0) ordered))
 
   pub run-good : 0 < length (ls .times) → GoodRun HasLine (lastRanges (t .ranges) ls)
   run-good some = subst (GoodRun HasLine) (sym run-is) (latest-has-line rs ordered (omega (arith, some, ranges-length ls (taken .same))))
+
+  pub told-outlook : outlookOf (t .outlook) ≡ outlook v (lastRanges (t .ranges) ls)
+  unfolding trendOf
+  told-outlook = ap (λ x. x .outlook) trend-is ∙ ap (outlook v) (sym run-is)

@@ -7,9 +7,9 @@
 --
 -- Assumes nothing.
 use Prim.Native.Nat.{ℕ, _<_}
-use mathlib.Core.Path.{_≡_, refl, sym, ap, ap₂, _∙_}
+use mathlib.Core.Path.{_≡_, sym, ap, ap₂, _∙_}
 use mathlib.Core.Bool.{Bool}
-use mathlib.Core.List.{List, [], _∷_, _++_, map}
+use mathlib.Core.List.{List, [], _++_, map}
 use native.Mathlib.Omega.{arith}
 use lib.IntN.{ℤ}
 use lib.ListN.{length, drop, length-map}
@@ -26,15 +26,13 @@ use Rattle.trial_laws.specs.RangeLists.{ranges-length}
 use Rattle.trial_laws.specs.ListTrial.{trialRows, badService, latest-trial}
 use Rattle.trial_laws.specs.Accepted.{AcceptedLists}
 use Rattle.lines.specs.LatestTrend.{latest-short}
-use Rattle.drift_laws.specs.LineRows.{RowsFirst}
 use Rattle.values.specs.declared.Outlook.the-variants.{Open}
 use Rattle.values.specs.Meanings.{outlookOf}
 use Rattle.drift.specs.CornersPromise.{threeLengths}
 use Rattle.latest.specs.declared.Trend.{Trend}
-use Rattle.latest.specs.declared.LatestAnswer.{LatestAnswer}
 use Rattle.latest.specs.declared.LatestAnswer.the-variants.{Accepted, Refused}
-use Rattle.latest.specs.LatestPromise.{Told, toldOf, trendMeaning, latestMeaning, LatestPromise}
-use Rattle.latest.specs.FoundTrends.{TrendGiven}
+use Rattle.latest.specs.LatestPromise.{toldOf, latestMeaning, LatestPromise}
+use Rattle.latest.specs.FoundTrends.{TrendGiven, short-open}
 
 pub rows-are : (ns : List ℕ) (v : Service) (ls : Lists) {short bad : Bool} → short ≡ tooShort cornerRoom ns → bad ≡ badService v → firstRow (latestRows ns v ls) ≡ firstRow (trialRows short bad ls)
 rows-are ns v ls e f = latest-trial ns v ls ∙ ap₂ (λ short bad. firstRow (trialRows short bad ls)) (sym e) (sym f)
@@ -78,28 +76,18 @@ module _ (v : Service) (ls : Lists) (ps qs ds : List ℤ) where
           ds-are = slice-filled (λ l. l .d) ds (g .rows .d-is);
         }
 
-    -- fewer than two ranges are open, without corners
-    open-told : (rs : List Range) → length rs < 2 → toldOf (trendOf v rs) ≡ record { ranges = length rs; outlook = open-strip; corners = 0 }
-    unfolding trendOf fitOf cornersIn outlook
-    open-told [] h = refl
-    open-told (r ∷ []) h = refl
-    open-told (r ∷ s ∷ rs) h = absurd (omega arith)
-
-    open-corners : (rs : List Range) → length rs < 2 → cornersIn (fitOf rs) ≡ []
-    unfolding fitOf cornersIn
-    open-corners [] h = refl
-    open-corners (r ∷ []) h = refl
-    open-corners (r ∷ s ∷ rs) h = absurd (omega arith)
-
     pub promise-open : AcceptedLists ls → length (ls .times) < 2 → LatestPromise v ls ps qs ds ps qs ds (Accepted (record { ranges = length (ls .times); outlook = Open; corners = 0 }))
-    unfolding outlookOf
+    unfolding outlookOf trendOf
     promise-open a few =
         let long = ranges-length ls (a .same) in
         let run-is : found ≡ rangesOf ls = latest-short (rangesOf ls) (a .ranges .ordered) (omega arith) in
-        let none-left : cornersIn (fitOf found) ≡ [] = ap (λ rs. cornersIn (fitOf rs)) run-is ∙ open-corners (rangesOf ls) (omega arith) in
+        let bare = short-open v (rangesOf ls) (omega arith) in
+        let no-corners : cornersIn (fitOf found) ≡ [] = ap (λ rs. cornersIn (fitOf rs)) run-is ∙ bare .1 in
+        let ranges-are : length (ls .times) ≡ length found = sym (ap length run-is ∙ long) in
+        let outlook-is : open-strip ≡ outlook v found = sym (ap (outlook v) run-is ∙ bare .0) in
         promise-trend (record {
-          told = sym (ap (λ rs. toldOf (trendOf v rs)) run-is ∙ open-told (rangesOf ls) (omega arith) ∙ ap (λ n. record { ranges = n; outlook = open-strip; corners = 0 }) long);
-          rows = record { p-is = kept (λ l. l .p) ps none-left; q-is = kept (λ l. l .q) qs none-left; d-is = kept (λ l. l .d) ds none-left };
+          told = λ i. record { ranges = ranges-are i; outlook = outlook-is i; corners = ap length (sym no-corners) i };
+          rows = record { p-is = kept (λ l. l .p) ps no-corners; q-is = kept (λ l. l .q) qs no-corners; d-is = kept (λ l. l .d) ds no-corners };
         })
       where
         kept : (number : Line → ℤ) (old : List ℤ) {ks : List Line} → ks ≡ [] → old ≡ map number ks ++ drop (length ks) old

@@ -6,12 +6,12 @@
 --     given-longest              no longer end of the lists has a line
 --     given-two                  they are two or more where the lists have so many
 --     given-open                 the outlook is open exactly if the lists have fewer than two ranges: none at all, or one
---     given-few                  then all ranges are given, there are no corners, and the slices hold their old contents
+--     given-few, given-none      then all ranges are given, there are no corners, as their fit has none, and the slices hold their old contents
 -- and where the lists have two ranges or more
---     given-lines                the outlook is the lines and times of these ranges, over all lines of their fit
+--     given-lines                the outlook is the slow line, the fast line and the times of these ranges, over all lines of their fit
 --     given-corners              the lines in the slices are the corners of these ranges, in the scope's list
 --     given-about                what holds of the corners of any two or more ranges that have a line holds of these lines
---     given-count                they are as many as these ranges have corners, and at most two for each range
+--     given-count, given-some    they are as many as these ranges have corners, at least one and at most two for each range
 --     given-fit, given-mean      each fits these ranges, and every line that fits them is a weighted mean of them
 --     given-exact                a line is among them exactly if it is a corner of the fit, in lowest terms
 --     given-ordered, given-once  they are in corner order, none twice
@@ -40,17 +40,18 @@ use Rattle.definitions.specs.Lines.{Line}
 use Rattle.definitions.specs.Corners.{corners}
 use Rattle.definitions.specs.Fit.{InFit, HasLine, Ordered, WeightedMean, Corner, InCornerOrder}
 use Rattle.definitions.specs.Splits.{GoodRun}
-use Rattle.definitions.specs.Outlook.{open-strip, lines, outlook, endTime, Outlook as OutlookTerm}
-use Rattle.definitions.specs.Answers.{refused, accepted}
+use Rattle.definitions.specs.Outlook.{open-strip, outlook, endTime, Outlook as OutlookTerm}
+use Rattle.definitions.specs.Answers.{refused}
 use Rattle.definitions.specs.Calls.{fitOf, cornersIn}
-use Rattle.definitions.specs.Latest.{latestRun, trendOf, latestCall}
+use Rattle.definitions.specs.Latest.{trendOf, latestCall}
 use Rattle.trial_laws.specs.CallLaws.{bind-refused}
 use Rattle.trial_laws.specs.RangeLists.{rangeAt, ranges-length}
 use Rattle.splits.specs.Runs.{good-run}
 use Rattle.splits.specs.OrderedRanges.{lastTimeOf, last-append}
 use Rattle.lines.specs.RunOutlook.{LinesOf, run-lines}
+use Rattle.lines.specs.OneRange.{few-no-corner}
 use Rattle.lines.specs.Diagonal.{ByDiagonal}
-use Rattle.lines.specs.Theorems.{corners-exact, corners-ordered, corners-once, corners-count, corners-fit, corners-mean, corners-by-diagonal}
+use Rattle.lines.specs.Theorems.{corners-exact, corners-ordered, corners-once, corners-some, corners-count, corners-fit, corners-mean, corners-by-diagonal}
 use Rattle.lines.specs.LatestTrend.{latest-longest, latest-two, latest-short}
 use Rattle.drift_laws.specs.RunsByPlace.{run, run-more}
 use Rattle.values.specs.Meanings.{outlookOf}
@@ -60,15 +61,8 @@ use Rattle.latest.specs.declared.Trend.{Trend}
 use Rattle.latest.specs.declared.LatestAnswer.the-variants.{Accepted, Refused}
 use Rattle.latest.specs.LatestPromise.{toldOf, latestMeaning, LatestPromise}
 use Rattle.latest.specs.LatestStarts.{rest-run}
-use Rattle.latest.specs.FoundTrends.{fit-corners}
-use Rattle.latest.specs.GivenTrends.{lastRanges, slices, taken-good, taken, ordered, called, trend-is, run-is, run-length, run-ordered, run-good}
-
--- fewer than two ranges
-short-open : (v : Service) (rs : List Range) → length rs < 2 → (outlook v rs ≡ open-strip) × (cornersIn (fitOf rs) ≡ [])
-unfolding outlook fitOf cornersIn
-short-open v [] h = (refl, refl)
-short-open v (r ∷ []) h = (refl, refl)
-short-open v (r ∷ s ∷ rs) h = absurd (omega arith)
+use Rattle.latest.specs.FoundTrends.{fit-corners, short-open}
+use Rattle.latest.specs.GivenTrends.{lastRanges, slices, taken-good, taken, ordered, called, trend-is, run-is, run-length, run-ordered, run-good, told-outlook}
 
 not-open : {A : Type 0} {v : Service} {rs : List Range} {from : ℕ} {o : OutlookTerm} → LinesOf v rs from o → o ≡ open-strip → A
 not-open l e = let f = sym e ∙ l .is in let z : _≡_ {A = ℕ} 0 1 = cc in absurd (omega arith)
@@ -98,10 +92,6 @@ module _ {v : Service} {ls : Lists} {ps qs ds ps′ qs′ ds′ : List ℤ} {t :
   pub given-two : 2 ≤ length (ls .times) → 2 ≤ t .ranges
   given-two h = omega (arith, latest-two rs (ordered promise) (omega (arith, long)), ap length (run-is promise), run-length promise .0)
 
-  told-outlook : outlookOf (t .outlook) ≡ outlook v last
-  unfolding trendOf
-  told-outlook = ap (λ x. x .outlook) (trend-is promise) ∙ ap (outlook v) (sym (run-is promise))
-
   last-time : 0 < length (ls .times) → 0 < t .ranges → lastTimeOf last ≡ getD (ls .times) (length (ls .times) - 1) 0
   unfolding lastTimeOf endTime
   last-time h some =
@@ -115,13 +105,13 @@ module _ {v : Service} {ls : Lists} {ps qs ds ps′ qs′ ds′ : List ℤ} {t :
   given-lines h =
       let two = given-two h in
       let means = run-lines v (taken-good promise .direction-in) last (omega (arith, run-length promise .0)) (run-ordered promise) (good-run HasLine last (given-line (omega arith))) in
-      subst (LinesOf v last (getD (ls .times) (length (ls .times) - 1) 0)) (sym told-outlook) (subst (λ x. LinesOf v last x (outlook v last)) (last-time (omega arith) (omega arith)) means)
+      subst (LinesOf v last (getD (ls .times) (length (ls .times) - 1) 0)) (sym (told-outlook promise)) (subst (λ x. LinesOf v last x (outlook v last)) (last-time (omega arith) (omega arith)) means)
 
   few-run : length (ls .times) < 2 → last ≡ rs
   few-run h = run-is promise ∙ latest-short rs (ordered promise) (omega (arith, long))
 
   pub given-open : (outlookOf (t .outlook) ≡ open-strip) ↔ (length (ls .times) < 2)
-  given-open = (λ e. by e (ltb (length (ls .times)) 2) refl, λ h. told-outlook ∙ ap (outlook v) (few-run h) ∙ short-open v rs (omega (arith, long)) .0)
+  given-open = (λ e. by e (ltb (length (ls .times)) 2) refl, λ h. told-outlook promise ∙ ap (outlook v) (few-run h) ∙ short-open v rs (omega (arith, long)) .0)
     where
       by : outlookOf (t .outlook) ≡ open-strip → (b : Bool) → ltb (length (ls .times)) 2 ≡ b → length (ls .times) < 2
       by e true f = ltb-true (length (ls .times)) 2 f
@@ -138,6 +128,9 @@ module _ {v : Service} {ls : Lists} {ps qs ds ps′ qs′ ds′ : List ℤ} {t :
       let run-all = sym (run-is promise) ∙ few-run h in
       let kept = lines-none (slices promise) (called promise) (ap (λ l. cornersIn (fitOf l)) run-all ∙ none) in
       (sym (run-length promise .0) ∙ ap length (few-run h) ∙ long, told-corners ∙ ap (λ l. length (cornersIn (fitOf l))) (few-run h) ∙ ap length none, kept .0, kept .1, kept .2)
+
+  pub given-none : length (ls .times) < 2 → (l : Line) → Corner last l → ⊥
+  given-none h = few-no-corner last (omega (arith, ap length (few-run h), long))
 
   -- ---- the corners
 
@@ -162,6 +155,9 @@ module _ {v : Service} {ls : Lists} {ps qs ds ps′ qs′ ds′ : List ℤ} {t :
     given-count =
         let m : t .corners ≡ length (corners last) = told-corners ∙ ap length (fit-corners last two) in
         (m, omega (arith, m, ap length given-corners, given-about (λ rs ks. length ks ≤ 2 * length rs) (λ r s ws o h. corners-count r s ws o h), run-length promise .0))
+
+    pub given-some : 0 < t .corners
+    given-some = omega (arith, given-count .0, ap length given-corners, given-about (λ rs ks. 0 < length ks) (λ r s ws o h. corners-some r s ws o h))
 
     pub given-fit : All (InFit last) given
     given-fit = given-about (λ rs ks. All (InFit rs) ks) (λ r s ws o h. corners-fit r s ws o h)

@@ -32,7 +32,7 @@ use Rattle.splits.specs.OrderedRanges.{ordered-right}
 use Rattle.lines.specs.Mirrored.{mirrored}
 use Rattle.lines.specs.MirroredOutlook.{outlook-mirrored}
 use Rattle.lines.specs.MirroredCorners.{TurnedRing, ring-length, corners-mirrored}
-use Rattle.lines.specs.LatestTrend.{restOf, latest-end, latest-has-line, latest-mirrored}
+use Rattle.lines.specs.LatestTrend.{restOf, latest-suffix, latest-has-line, latest-mirrored}
 use Rattle.drift.specs.GivenLines.{givenLines}
 use Rattle.drift.specs.CornersPromise.{threeLengths}
 use Rattle.latest.specs.declared.Trend.{Trend}
@@ -68,7 +68,7 @@ module _ (v : Service) (ls : Lists) (ns ns′ : List ℕ) (alike : tooShort corn
   told-given e =
       let h = latest-accepted ns v ls .0 e in
       let order = h .2 .ranges .ordered in
-      let (whole, few) = latest-end rs in
+      let (whole, few) = latest-suffix rs in
       let run-ordered = ordered-right (take (restOf rs) rs) (latestRun rs) (subst Ordered whole order) in
       let ranges-are = ap length run-mirrored ∙ length-map (latestRun rs) mirroredRange in
       let outlook-is = ap (outlook (mirroredService v)) run-mirrored ∙ outlook-mirrored v (h .1 .direction-in) (latestRun rs) run-ordered in

@@ -1,7 +1,7 @@
 -- The lists of a trace read backward, as the loop of `read_backward` fills them.
 --
 --     RoomFor ls bs            the lists ls are of one length, and each of bs is at least as long
---     ReadBackward ls bs       the first entries of bs are the times, lows and highs of the trace read backward; no time is above the last that there is
+--     ReadBackward ls bs       the first entries of bs are the times, lows and highs of the trace read backward; no time of ls is above 4,294,967,295
 --     Turning, turning, turns-on, all-turned   what holds in the loop: before it, after one turn more, after it
 --     backward-ranges, backward-accepted     the ranges of these first entries are those of the trace read backward, and so they are lists that are accepted
 --

@@ -13,7 +13,7 @@ use lib.IntN.{ℤ}
 use Rattle.definitions.specs.Spans.{mostDirection, cornerRoom}
 use Rattle.definitions.specs.Services.{Service}
 use Rattle.definitions.specs.Ranges.{Lists, rangesOf}
-use Rattle.definitions.specs.Answers.{Row, refused, accepted, _>>=_}
+use Rattle.definitions.specs.Answers.{refused, accepted, _>>=_}
 use Rattle.definitions.specs.Trial.{listRows, latestRows}
 use Rattle.definitions.specs.Latest.{latestRun, trendOf, latestCall}
 use Rattle.trial_laws.specs.Rows.{NoneHolds, FirstAt}

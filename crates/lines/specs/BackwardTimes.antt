@@ -3,8 +3,7 @@
 --
 --     backTime, backward       a range with its time counted from m backward; ranges so, the last one first
 --     Until                    no time is above m, as none is above 4,294,967,295
---     backward-append          of two parts one after the other
---     backward-length, backward-take   as many; the first e of them are the last e ranges, read backward
+--     backward-length          as many
 --     backward-ordered         they are ordered where the ranges are
 --     backward-line            they have a line exactly if the ranges have
 --     latest-by-backward       where their first e have a line, and not with one more, the latest run is the last e ranges
@@ -89,7 +88,7 @@ module _ (m : ℕ) where
     },
   )
 
-  pub backward-append : (xs ys : List Range) → backward m (xs ++ ys) ≡ backward m ys ++ backward m xs
+  backward-append : (xs ys : List Range) → backward m (xs ++ ys) ≡ backward m ys ++ backward m xs
   backward-append xs ys = ap reverse (map-append (backTime m) xs ys) ∙ reverse-append (map (backTime m) xs) (map (backTime m) ys)
 
   pub backward-ordered : (rs : List Range) → Until m rs → Ordered rs → Ordered (backward m rs)
@@ -105,7 +104,7 @@ module _ (m : ℕ) where
   pub backward-length : (rs : List Range) → length (backward m rs) ≡ length rs
   backward-length rs = length-reverse (map (backTime m) rs) ∙ length-map rs (backTime m)
 
-  pub backward-take : (rs : List Range) (e : ℕ) → e ≤ length rs → take e (backward m rs) ≡ backward m (drop (length rs - e) rs)
+  backward-take : (rs : List Range) (e : ℕ) → e ≤ length rs → take e (backward m rs) ≡ backward m (drop (length rs - e) rs)
   backward-take rs e h =
       let k = length rs - e in
       ap (λ l. take e (backward m l)) (sym (take-append-drop k rs))

@@ -1,16 +1,18 @@
--- One range: its fit is an endless strip, and has no corner.
+-- One range: its fit is an endless strip, and has no corner. No range: every line is in its fit, and none is a corner.
 --
 --     turned t e l           l with e more of p, and with the same value at t
 --     turned-fits            turned about a range's time, a line that fits the range still fits it
 --     turned-between         each line is strictly between two that are turned about one time, either way
 --     no-corner              so no line of the fit of one range is a corner
+--     no-range-open, few-no-corner   every line is in the fit of no range; fewer than two ranges have no corner
 --
 -- Assumes nothing.
 use mathlib.Core.Path.{_≡_, sym, subst}
-use mathlib.Core.List.{[], _∷_}
-use Prim.Native.Nat.{ℕ}
+use mathlib.Core.List.{List, [], _∷_}
+use Prim.Native.Nat.{ℕ, _<_}
 use native.Mathlib.Omega.{arith}
 use lib.IntN.{ℤ, pos, negsuc, _+ℤ_, _-ℤ_, _*ℤ_}
+use lib.ListN.{length}
 use lib.Signed.{_≤ℤ_, _<ℤ_}
 use Rattle.integers.specs.RingSolver.{var}
 use Rattle.integers.specs.Certificates.{hyp, num, eqn, _⊞_, _⊠_}
@@ -69,3 +71,14 @@ turned-between t l h =
 pub no-corner : (r : Range) (l : Line) → Corner (r ∷ []) l → ⊥
 no-corner r l c =
     c .extreme (turned (r .time) (pos 1) l) (turned (r .time) (negsuc 0) l) (turned-fits r (pos 1) (c .fit)) (turned-fits r (negsuc 0) (c .fit)) (turned-between (r .time) l (c .fit .positive))
+
+pub no-range-open : (l : Line) → Positive l → InFit [] l
+no-range-open l h = record { positive = h; each = nil }
+
+pub few-no-corner : (rs : List Range) → length rs < 2 → (l : Line) → Corner rs l → ⊥
+unfolding turned
+few-no-corner [] h l c =
+    let over = c .fit .positive in
+    c .extreme (turned 0 (pos 1) l) (turned 0 (negsuc 0) l) (no-range-open (turned 0 (pos 1) l) over) (no-range-open (turned 0 (negsuc 0) l) over) (turned-between 0 l over)
+few-no-corner (r ∷ []) h l c = no-corner r l c
+few-no-corner (r ∷ s ∷ rs) h l c = absurd (omega arith)

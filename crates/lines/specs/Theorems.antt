@@ -3,10 +3,11 @@
 -- The fit
 --     has-line                   `hasLine` passes exactly if some line fits each of the ranges
 --     one-range-open, one-range-no-corner   one range has lines of every slope, and no corner
+--     no-range-open, no-range-no-corner     no range has every line, and no corner
 --     two-ranges                 two ranges always have a line
 -- The corners of two or more ranges that have a line
 --     corners-exact              a line is listed exactly if it is a corner, in lowest terms
---     corners-ordered, corners-once, corners-count   in corner order, none twice, at most 2k for k ranges
+--     corners-ordered, corners-once, corners-some, corners-count   in corner order, none twice, at least one, at most 2k for k ranges
 --     corners-by-diagonal        the same order in the words of `Diagonal`: above the diagonal is a greater intercept than the diagonal has at the same slope, below it a smaller one
 --     corners-unique             no other list is so
 --     corners-fit, corners-mean  each fits, and every line of the fit is a weighted mean of them
@@ -30,11 +31,13 @@
 --     segments-back              cutting from the end gives as many
 --     running-has-line           the segment then running after k ranges is not empty and has a line
 --
+-- The latest run: `LatestTrend`.
 -- Assumes nothing.
 use mathlib.Core.Path.{_≡_}
 use mathlib.Core.Logic.{_↔_}
 use mathlib.Core.List.{List, [], _∷_, _++_, reverse, List·Nodup}
 use Prim.Native.Nat.{ℕ, _*_, _<_, _≤_}
+use native.Mathlib.Omega.{arith}
 use lib.Dec.{T}
 use lib.IntN.{ℤ, pos, _*ℤ_}
 use lib.ListN.{length, getD}
@@ -46,7 +49,7 @@ use Rattle.definitions.specs.Spans.{mostRanges, segmentRoom}
 use Rattle.definitions.specs.Ranges.{Range}
 use Rattle.definitions.specs.Lines.{Line, hasLine}
 use Rattle.definitions.specs.Corners.{side, corners}
-use Rattle.definitions.specs.Fit.{InFit, HasLine, Ordered, SameLine, SlopeBelow, WeightedMean, Corner, InCornerOrder}
+use Rattle.definitions.specs.Fit.{InFit, HasLine, Ordered, SameLine, SlopeBelow, WeightedMean, Corner, InCornerOrder, single, around}
 use Rattle.definitions.specs.Splits.{cut, GoodRun, Split, endOf}
 use Rattle.definitions.specs.Segments.{segments, runningAfter}
 use Rattle.definitions.specs.Results.{segmentOf, segmentsOf}
@@ -58,6 +61,7 @@ use Rattle.chains.specs.Results.{two-have-line}
 use Rattle.lines.specs.LineOrder.{Positive}
 use Rattle.lines.specs.HasLine.{every-slope}
 use Rattle.lines.specs.OneRange.{no-corner}
+use Rattle.lines.specs.OneRange as OneRange
 use Rattle.lines.specs.Diagonal.{OnDiagonal, ByDiagonal}
 use Rattle.lines.specs.Diagonal as Diagonal
 use Rattle.lines.specs.CornerList as Listing
@@ -73,6 +77,12 @@ one-range-open r o = every-slope r (o .0)
 
 pub one-range-no-corner : (r : Range) (l : Line) → Corner (r ∷ []) l → ⊥
 one-range-no-corner = no-corner
+
+pub no-range-open : (l : Line) → pos 0 <ℤ l .d → InFit [] l
+no-range-open = OneRange.no-range-open
+
+pub no-range-no-corner : (l : Line) → Corner [] l → ⊥
+no-range-no-corner = OneRange.few-no-corner [] (omega arith)
 
 pub two-ranges : (r s : Range) → Ordered (r ∷ s ∷ []) → HasLine (r ∷ s ∷ [])
 two-ranges = two-have-line
@@ -106,6 +116,13 @@ module _ (r s : Range) (ws : List Range) (o : Ordered (r ∷ s ∷ ws)) (h : Has
 
   pub corners-once : List·Nodup (corners (r ∷ s ∷ ws))
   corners-once = Listing.corners-once o (corners-of r s ws o h)
+
+  pub corners-some : 0 < length (corners (r ∷ s ∷ ws))
+  corners-some = by corners-ordered
+    where
+      by : {ks : List Line} → InCornerOrder ks → 0 < length ks
+      by (single l) = omega arith
+      by (around slow above fast below rising falling over under) = omega arith
 
   pub corners-count : length (corners (r ∷ s ∷ ws)) ≤ 2 * length (r ∷ s ∷ ws)
   corners-count = Listing.corners-count o (corners-of r s ws o h)
