@@ -209,8 +209,8 @@ uint8_t humoraki_preview(int32_t level, uint32_t direction,
                          uint64_t *some, uint64_t *all);
 
 /*
- * The latest trend: the longest run of ranges at the end of a trace that some line fits, with its outlook and the
- * corners of its fit. Like the last segment it ends with the last range, and it can begin before that segment does.
+ * The latest trend. Its run has the last ranges of the trace, as many as some line can fit together; it is told with
+ * its outlook and its corners. Like the last segment it ends with the last range, and it can begin before that one.
  *
  * level                   the service level, -268,435,456 to 268,435,456
  * direction               HUMORAKI_RISING or HUMORAKI_FALLING; any other number is refused with 4
