@@ -2,7 +2,7 @@
 --
 --     passed, hasReached     a line has reached the level at a time: on a rising trace it is at or above the level, on a falling one at or below it
 --     someTime, allTime      the scope's *some* and *all*: the first time from the segment's last on at which some line, every line has reached the level
---     Outlook, outlook       the scope's outlook: open, or the slow line, the fast line, *some* and *all*
+--     Outlook, outlook       the scope's outlook: open where there are fewer than two ranges, none at all included, else the slow line, the fast line, *some* and *all*
 --
 -- The lines asked are the fitting ones through two ends; that this decides it for every line of the fit is a theorem of `lines`.
 -- Assumes nothing.
