@@ -11,7 +11,14 @@ ghost use Rattle.values.specs.Signed.{half64};
 pub fn gcd(a: u64, b: u64) -> u64
     ensures { λ r. ⌜ r ≡ gcdOf a b ⌝ }
 {
-    if b == 0 { a } else { gcd(b, a % b) }
+    let mut x = a;
+    let mut y = b;
+    while 0 < y {
+        let rest = x % y;
+        x = y;
+        y = rest;
+    }
+    x
 }
 
 // |x|
