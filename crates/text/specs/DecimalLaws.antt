@@ -2,6 +2,7 @@
 --
 --     decimal-small          a number below 10 is one digit
 --     decimal-more           any other is its quotient by 10 with one digit more
+--     length-small, length-more  so the first has one digit, and any other one more than its quotient
 --     decimal-long           a number below 10 ^ k has at most k digits, for k from 1 on
 --
 -- Assumes nothing.
@@ -44,12 +45,16 @@ pub decimal-more : (n : ℕ) → 10 ≤ n → decimal n ≡ decimal (n / 10) ++ 
 unfolding decimal
 decimal-more n h = within-more n n h ∙ ap (λ bs. bs ++ digit n) (stable n (suc (n / 10)) (n / 10) (omega arith) (omega arith))
 
+pub length-small : (n : ℕ) → n < 10 → length (decimal n) ≡ 1
+length-small n h = ap length (decimal-small n h)
+
+pub length-more : (n : ℕ) → 10 ≤ n → length (decimal n) ≡ length (decimal (n / 10)) + 1
+length-more n h = ap length (decimal-more n h) ∙ length-append (decimal (n / 10)) (digit n)
+
 pub decimal-long : (k n : ℕ) → n < 10 ^ suc k → length (decimal n) ≤ suc k
-decimal-long zero n h = omega (arith, ap length (decimal-small n (omega (arith, h))))
+decimal-long zero n h = omega (arith, length-small n (omega (arith, h)))
 decimal-long (suc k) n h = by (λ large. decimal-long k (n / 10) (omega (arith, h))) (ltb n 10) refl
   where
     by : (10 ≤ n → length (decimal (n / 10)) ≤ suc k) → (t : Bool) → ltb n 10 ≡ t → length (decimal n) ≤ suc (suc k)
-    by front true e = omega (arith, ap length (decimal-small n (ltb-true n 10 e)))
-    by front false e =
-        let large = ltb-false n 10 e in
-        omega (arith, ap length (decimal-more n large), length-append (decimal (n / 10)) (digit n), front large)
+    by front true e = omega (arith, length-small n (ltb-true n 10 e))
+    by front false e = let large = ltb-false n 10 e in omega (arith, length-more n large, front large)

@@ -13,10 +13,10 @@ use mathlib.Core.List.{List, [], _∷_, _++_}
 use native.Mathlib.Omega.{arith}
 use borrow.Author.Tests.{ltb-true, ltb-false}
 use lib.Dec.{ltb}
-use lib.ListN.{length, getD, length-append, List·getD-append}
+use lib.ListN.{length, getD, List·getD-append}
 use Rattle.integers.specs.Lists.{All, nil, cons, All-append}
 use Rattle.definitions.specs.Report.{decimal}
-use Rattle.text.specs.DecimalLaws.{decimal-small, decimal-more}
+use Rattle.text.specs.DecimalLaws.{decimal-small, decimal-more, length-small, length-more}
 
 -- after digits that tell `front`
 abbrev valueAfter : ℕ → List ℕ → ℕ
@@ -61,8 +61,8 @@ decimal-digits =
 decimal-some : (n : ℕ) → 0 < length (decimal n)
 decimal-some =
     by-digits (λ n. 0 < length (decimal n))
-    (λ n h. omega (arith, ap length (decimal-small n h)))
-    (λ n h front. omega (arith, front, ap length (decimal-more n h), length-append (decimal (n / 10)) ((48 + n % 10) ∷ [])))
+    (λ n h. omega (arith, length-small n h))
+    (λ n h front. omega (arith, length-more n h))
 
 pub decimal-first : (n : ℕ) → getD (decimal n) 0 48 ≡ 48 → n ≡ 0
 decimal-first =

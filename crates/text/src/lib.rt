@@ -1,6 +1,7 @@
 // Words and decimal numbers in a lent text. Each function puts its piece from `at` on and gives the place after it.
-ghost use Prim.Native.Nat.{_+_, _<_};
-ghost use mathlib.Core.List.{[], _∷_, _++_};
+ghost use mathlib.Core.Path.{_≡_};
+ghost use mathlib.Core.List.{_++_};
+ghost use lib.ListN.{length};
 ghost use Rattle.definitions.specs.Report.{decimal, signedDecimal};
 ghost use Rattle.text.specs.Put.{Room, Put};
 
@@ -16,23 +17,33 @@ pub fn put_word(text: &mut [u8], at: usize, word: &[u8]) -> usize
     at + i
 }
 
-fn put_digit(text: &mut [u8], at: usize, digit: u64) -> usize
-    requires { ⌜ (digit < 10) × (Room at ((48 + digit) ∷ []) (now text)) ⌝ }
-    ensures { λ r. ⌜ Put at ((48 + digit) ∷ []) (now (text .entry)) r (now (text .exit)) ⌝ }
+// How many digits n has.
+fn digit_count(n: u64) -> usize
+    ensures { λ r. ⌜ r ≡ length (decimal n) ⌝ }
 {
-    text[at] = (48 + digit) as u8;
-    at + 1
+    let mut count = 1;
+    let mut rest = n;
+    while 10 <= rest {
+        count += 1;
+        rest = rest / 10;
+    }
+    count
 }
 
+// The digits go in from the last to the first.
 pub fn put_number(text: &mut [u8], at: usize, n: u64) -> usize
     requires { ⌜ Room at (decimal n) (now text) ⌝ }
     ensures { λ r. ⌜ Put at (decimal n) (now (text .entry)) r (now (text .exit)) ⌝ }
 {
-    if n < 10 {
-        return put_digit(text, at, n);
+    let next = at + digit_count(n);
+    let mut place = next;
+    let mut rest = n;
+    while at < place {
+        place -= 1;
+        text[place] = (48 + rest % 10) as u8;
+        rest = rest / 10;
     }
-    let next = put_number(text, at, n / 10);
-    put_digit(text, next, n % 10)
+    next
 }
 
 pub fn put_signed(text: &mut [u8], at: usize, n: i64) -> usize
