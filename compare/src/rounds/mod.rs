@@ -2,6 +2,7 @@
 
 pub mod addresses;
 pub mod damaged_files;
+pub mod digits;
 pub mod directions;
 pub mod field_faults;
 pub mod largest;
@@ -9,6 +10,7 @@ pub mod latest;
 pub mod latest_cases;
 pub mod list_faults;
 pub mod long_traces;
+pub mod lowest_terms;
 pub mod mirrors;
 pub mod panel_cases;
 pub mod panel_courses;
