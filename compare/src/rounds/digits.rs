@@ -1,5 +1,5 @@
-//! Reports whose numbers are a power of ten or one less: of every number of digits that a report can have, in both
-//! signs.
+//! Reports whose levels and intercepts are a power of ten or one less: of every number of digits that a report can
+//! have, in both signs.
 
 use crate::desk::Desk;
 use crate::difference::Outcome;
@@ -25,8 +25,8 @@ fn powers(largest: u32) -> impl Iterator<Item = u32> {
     (0..=largest).map(|power| 10_u32.pow(power))
 }
 
-/// A value that rises, or falls, by 1 in that span of time, from time 0 and from time 1 on. At time 0 the line is at
-/// the value, so that its intercept is value and span multiplied, and from time 1 on one less.
+/// A value that rises, or falls, by 1 in that span of time. From time 0 on, its line has the value times the span for
+/// q; from time 1 on, one less.
 fn reports(desk: &mut Desk, span: u32, value: i32) -> Outcome {
     for less in [0, 1] {
         for sign in [1, -1] {

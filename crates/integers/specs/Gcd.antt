@@ -1,7 +1,7 @@
 -- The greatest common divisor of two natural numbers, by Euclid's rule.
 --
 --     gcd a b                                 the greatest common divisor; gcd 0 0 is 0
---     gcd-zero, gcd-step, gcd-step-above-0    gcd a 0 = a; gcd a b = gcd b (a % b), for b = c + 1 or for b above 0: what a program that recurses has to know
+--     gcd-zero, gcd-step, gcd-step-above-0    gcd a 0 = a; gcd a b = gcd b (a % b), for b = c + 1 or for b above 0: what a program has to know of a step
 --     IsGcd a b g                             g divides a and b, and every common divisor divides g
 --     gcd-is                                  gcd a b is such a g
 --     gcd-only                                and there is only one
