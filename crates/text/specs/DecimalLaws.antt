@@ -2,6 +2,7 @@
 --
 --     decimal-small          a number below 10 is one digit
 --     decimal-more           any other is its quotient by 10 with one digit more
+--     by-digits              what holds of the numbers below 10, and of any other if of its quotient by 10, holds of all
 --     length-small, length-more  so the first has one digit, and any other one more than its quotient
 --     decimal-long           a number below 10 ^ k has at most k digits, for k from 1 on
 --
@@ -44,6 +45,18 @@ decimal-small n h = within-small n n h
 pub decimal-more : (n : ℕ) → 10 ≤ n → decimal n ≡ decimal (n / 10) ++ ((48 + n % 10) ∷ [])
 unfolding decimal
 decimal-more n h = within-more n n h ∙ ap (λ bs. bs ++ digit n) (stable n (suc (n / 10)) (n / 10) (omega arith) (omega arith))
+
+-- what holds of n and, where n has more digits, of a tenth of it
+pub by-digits : (P : ℕ → Type 0) → ((n : ℕ) → n < 10 → P n) → ((n : ℕ) → 10 ≤ n → P (n / 10) → P n) → (n : ℕ) → P n
+by-digits P small more n = within (suc n) n (omega arith)
+  where
+    step : (n : ℕ) → (10 ≤ n → P (n / 10)) → (t : Bool) → ltb n 10 ≡ t → P n
+    step n front true e = small n (ltb-true n 10 e)
+    step n front false e = let large = ltb-false n 10 e in more n large (front large)
+
+    within : (k n : ℕ) → n < k → P n
+    within zero n h = absurd (omega arith)
+    within (suc k) n h = step n (λ large. within k (n / 10) (omega (arith, large))) (ltb n 10) refl
 
 pub length-small : (n : ℕ) → n < 10 → length (decimal n) ≡ 1
 length-small n h = ap length (decimal-small n h)

@@ -6,17 +6,14 @@
 --     decimal-first          the first digit is 0 only where the number is 0
 --
 -- Assumes nothing.
-use Prim.Native.Nat.{ℕ, zero, suc, _+_, _-_, _*_, _/_, _%_, _≤_, _<_}
+use Prim.Native.Nat.{ℕ, _+_, _-_, _*_, _/_, _%_, _≤_, _<_}
 use mathlib.Core.Path.{_≡_, refl, sym, ap, _∙_, subst}
-use mathlib.Core.Bool.{Bool, true, false}
 use mathlib.Core.List.{List, [], _∷_, _++_}
 use native.Mathlib.Omega.{arith}
-use borrow.Author.Tests.{ltb-true, ltb-false}
-use lib.Dec.{ltb}
 use lib.ListN.{length, getD, List·getD-append}
 use Rattle.integers.specs.Lists.{All, nil, cons, All-append}
 use Rattle.definitions.specs.Report.{decimal}
-use Rattle.text.specs.DecimalLaws.{decimal-small, decimal-more, length-small, length-more}
+use Rattle.text.specs.DecimalLaws.{decimal-small, decimal-more, by-digits, length-small, length-more}
 
 -- after digits that tell `front`
 abbrev valueAfter : ℕ → List ℕ → ℕ
@@ -32,18 +29,6 @@ value-append front (c ∷ bs) b = value-append (front * 10 + (c - 48)) bs b
 
 abbrev Digit : ℕ → Type 0
 Digit b = (48 ≤ b) × (b < 58)
-
--- what holds of n and, where n has more digits, of a tenth of it
-by-digits : (P : ℕ → Type 0) → ((n : ℕ) → n < 10 → P n) → ((n : ℕ) → 10 ≤ n → P (n / 10) → P n) → (n : ℕ) → P n
-by-digits P small more n = within (suc n) n (omega arith)
-  where
-    step : (n : ℕ) → (10 ≤ n → P (n / 10)) → (t : Bool) → ltb n 10 ≡ t → P n
-    step n front true e = small n (ltb-true n 10 e)
-    step n front false e = let large = ltb-false n 10 e in more n large (front large)
-
-    within : (k n : ℕ) → n < k → P n
-    within zero n h = absurd (omega arith)
-    within (suc k) n h = step n (λ large. within k (n / 10) (omega (arith, large))) (ltb n 10) refl
 
 pub decimal-value : (n : ℕ) → valueOf (decimal n) ≡ n
 decimal-value =

@@ -1,37 +1,32 @@
 -- Digits that are put from the last to the first.
 --
---     LastDigit, last-digit  the last digit of a number, and the digits in front of it, which are those of a tenth where there are any
---     LastPut                from `place` on the last digits are put, and those in front of them are the digits of `rest`
+--     LastPut at n next old place rest text   `text` is `old` with the last digits of n from `place` up to `next`; those in front of them, where there are any, are the digits of `rest`
 --     last-none, last-next, last-all   no digit is put, one more, and all
 --
 -- Assumes nothing.
 use Prim.Native.Nat.{ℕ, _+_, _-_, _/_, _%_, _≤_, _<_}
 use mathlib.Core.Path.{_≡_, refl, sym, ap, _∙_, subst}
 use mathlib.Core.List.{List, [], _∷_, _++_, append-assoc, append-nil}
-use mathlib.Core.Bool.{Bool, true, false}
 use native.Mathlib.Omega.{arith}
-use borrow.Author.Tests.{ltb-true, ltb-false}
-use lib.Dec.{ltb}
 use lib.ListN.{length, length-append, set, drop-of-length-le}
 use Rattle.definitions.specs.Report.{decimal}
 use Rattle.text.specs.Put.{Room, Put}
 use Rattle.text.specs.PutLaws.{put-none, put-before}
-use Rattle.text.specs.DecimalLaws.{decimal-small, decimal-more}
+use Rattle.text.specs.DecimalLaws.{decimal-small, decimal-more, by-digits}
 
-pub record LastDigit (n : ℕ) : Type 0 where
+-- the last digit, and the digits in front of it, which are those of a tenth where there are any
+record LastDigit (n : ℕ) : Type 0 where
   pub front : List ℕ
   pub digits : decimal n ≡ front ++ ((48 + n % 10) ∷ [])
   pub front-is : 0 < length front → front ≡ decimal (n / 10)
 
-pub last-digit : (n : ℕ) → LastDigit n
-last-digit n = by (ltb n 10) refl
-  where
-    by : (t : Bool) → ltb n 10 ≡ t → LastDigit n
-    by true e =
-        let small = ltb-true n 10 e in
-        let same : n ≡ n % 10 = omega (arith, small) in
-        record { front = []; digits = decimal-small n small ∙ ap (λ d. (48 + d) ∷ []) same; front-is = λ h. absurd (omega (arith, h)) }
-    by false e = record { front = decimal (n / 10); digits = decimal-more n (ltb-false n 10 e); front-is = λ h. refl }
+last-digit : (n : ℕ) → LastDigit n
+last-digit =
+    by-digits LastDigit
+    (λ n h.
+    let same : n ≡ n % 10 = omega (arith, h) in
+    record { front = []; digits = decimal-small n h ∙ ap (λ d. (48 + d) ∷ []) same; front-is = λ some. absurd (omega (arith, some)) })
+    (λ n h tenth. record { front = decimal (n / 10); digits = decimal-more n h; front-is = λ some. refl })
 
 pub record LastPut (at n next : ℕ) (old : List ℕ) (place rest : ℕ) (text : List ℕ) : Type 0 where
   pub front : List ℕ
@@ -64,6 +59,7 @@ module _ (at n next : ℕ) (old : List ℕ) where
 
   pub last-all : {place rest : ℕ} {text : List ℕ} → place ≤ at → LastPut at n next old place rest text → Put at (decimal n) old next text
   last-all {place} {rest} {text} h last =
+      -- a list without entries is what is left of it after its first 0
       let none : last .front ≡ [] = drop-of-length-le (last .front) {i = 0} (omega (arith, h, last .place-is)) in
       let all : last .back ≡ decimal n = sym (last .digits ∙ ap (λ bs. bs ++ last .back) none) in
       let first : place ≡ at = omega (arith, h, last .place-is) in
