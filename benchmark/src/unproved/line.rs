@@ -21,8 +21,11 @@ pub struct Line {
 }
 
 /// The greatest common divisor, by Euclid's rule.
-fn gcd(a: u64, b: u64) -> u64 {
-    if b == 0 { a } else { gcd(b, a % b) }
+fn gcd(mut a: u64, mut b: u64) -> u64 {
+    while b != 0 {
+        (a, b) = (b, a % b);
+    }
+    a
 }
 
 impl Line {

@@ -1,5 +1,5 @@
-//! Reports whose levels and intercepts are a power of ten or one less: of every number of digits that a report can
-//! have, in both signs.
+//! Reports whose intercepts are a power of ten or one less, of every number of digits that one can have, in both signs;
+//! so are the levels, but for the largest intercept.
 
 use crate::desk::Desk;
 use crate::difference::Outcome;
@@ -26,7 +26,7 @@ fn powers(largest: u32) -> impl Iterator<Item = u32> {
 }
 
 /// A value that rises, or falls, by 1 in that span of time. From time 0 on, its line has the value times the span for
-/// q; from time 1 on, one less.
+/// q; from time 1 on, one less. Where the value falls, all of these are below 0.
 fn reports(desk: &mut Desk, span: u32, value: i32) -> Outcome {
     for less in [0, 1] {
         for sign in [1, -1] {
