@@ -3,7 +3,7 @@
 --     decimal-small          a number below 10 is one digit
 --     decimal-more           any other is its quotient by 10 with one digit more
 --     by-digits              what holds of the numbers below 10, and of any other if of its quotient by 10, holds of all
---     length-small, length-more  so the first has one digit, and any other one more than its quotient
+--     length-small, length-more  a number below 10 has one digit, and any other one more than its quotient by 10
 --     decimal-long           a number below 10 ^ k has at most k digits, for k from 1 on
 --
 -- Assumes nothing.
@@ -46,7 +46,7 @@ pub decimal-more : (n : ℕ) → 10 ≤ n → decimal n ≡ decimal (n / 10) ++ 
 unfolding decimal
 decimal-more n h = within-more n n h ∙ ap (λ bs. bs ++ digit n) (stable n (suc (n / 10)) (n / 10) (omega arith) (omega arith))
 
--- what holds of n and, where n has more digits, of a tenth of it
+-- induction by tenths
 pub by-digits : (P : ℕ → Type 0) → ((n : ℕ) → n < 10 → P n) → ((n : ℕ) → 10 ≤ n → P (n / 10) → P n) → (n : ℕ) → P n
 by-digits P small more n = within (suc n) n (omega arith)
   where

@@ -1,4 +1,4 @@
-// Words and decimal numbers in a lent text. Each function puts its piece from `at` on and gives the place after it.
+// Words and decimal numbers in a lent text. Each `put_..` puts its piece from `at` on and gives the place after it.
 ghost use mathlib.Core.Path.{_≡_};
 ghost use mathlib.Core.List.{_++_};
 ghost use lib.ListN.{length};
