@@ -4,8 +4,8 @@
  *   cc -std=c11 -Iinclude examples/panel.c target/staticlib/libhumoraki.a -o target/panel
  *   target/panel samples/example.trace samples/dusty.trace samples/wide.trace
  *
- * Files of one address go to one head, the earlier file first; level and direction are those of the later file. Heads
- * whose signal rises and heads whose signal falls stand on one panel.
+ * Files of one address go to one head, the earlier file first; level, direction and step are those of the later file.
+ * Heads whose signal rises and heads whose signal falls stand on one panel, each with its own step.
  */
 #include "humoraki.h"
 
@@ -14,7 +14,7 @@
 #include <stdio.h>
 #include <stdlib.h>
 
-/* The first 61,459 bytes decide, so bytes after these cannot matter. */
+/* The first 61,466 bytes decide, so bytes after these cannot matter. */
 #define FILE_ROOM 65536
 
 /* What a trace file says beside its ranges. */
@@ -22,10 +22,11 @@ struct record {
     uint32_t address;
     int32_t level;
     uint32_t direction;
+    uint32_t step;
     size_t ranges;
 };
 
-/* The panel. It keeps no level and no direction, so the record of each head's last file stands beside its entry. */
+/* The panel. It keeps no level, direction or step, so the record of each head's last file stands beside its entry. */
 static struct {
     humoraki_entry entries[HUMORAKI_MOST_HEADS];
     struct record records[HUMORAKI_MOST_HEADS];
@@ -107,7 +108,8 @@ static bool add_file(const char *path) {
     size_t length = read_file(path, file), added;
     struct record *record = &trace.record;
     uint8_t refusal = humoraki_read(file, length, LISTS,
-                                    &record->address, &record->level, &record->direction, &record->ranges);
+                                    &record->address, &record->level, &record->direction, &record->step,
+                                    &record->ranges);
     if (refusal != 0) {
         printf("%s: refused %d\n", path, refusal);
         return false;
@@ -125,7 +127,7 @@ static bool add_file(const char *path) {
 }
 
 static uint8_t find_segments(void) {
-    return humoraki_segment(trace.record.level, trace.record.direction,
+    return humoraki_segment(trace.record.level, trace.record.direction, trace.record.step,
                             trace.times, trace.record.ranges,
                             trace.lows, trace.record.ranges,
                             trace.highs, trace.record.ranges,

@@ -12,7 +12,7 @@
 #include <stdio.h>
 #include <stdlib.h>
 
-/* The first 61,459 bytes decide, so bytes after these cannot matter. */
+/* The first 61,466 bytes decide, so bytes after these cannot matter. */
 #define FILE_ROOM 65536
 
 /* A trace: the first `ranges` entries of each list. */
@@ -23,6 +23,7 @@ static struct {
     uint32_t address;
     int32_t level;
     uint32_t direction;
+    uint32_t step;
     size_t ranges;
 } trace;
 
@@ -65,11 +66,11 @@ static uint8_t read_trace(const uint8_t *file, size_t length) {
                          trace.times, HUMORAKI_READ_ROOM,
                          trace.lows, HUMORAKI_READ_ROOM,
                          trace.highs, HUMORAKI_READ_ROOM,
-                         &trace.address, &trace.level, &trace.direction, &trace.ranges);
+                         &trace.address, &trace.level, &trace.direction, &trace.step, &trace.ranges);
 }
 
 static uint8_t preview(uint32_t time, int32_t low, int32_t high) {
-    return humoraki_preview(trace.level, trace.direction,
+    return humoraki_preview(trace.level, trace.direction, trace.step,
                             trace.times, trace.ranges,
                             trace.lows, trace.ranges,
                             trace.highs, trace.ranges,

@@ -13,7 +13,7 @@ mod humoraki;
 
 use humoraki::{Outlook, Segment};
 
-/// The first 61,459 bytes decide, so bytes after these cannot matter.
+/// The first 61,466 bytes decide, so bytes after these cannot matter.
 const MOST_BYTES: u64 = 65_536;
 
 fn main() -> ExitCode {

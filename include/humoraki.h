@@ -10,8 +10,8 @@
  *    1   the file ends before a needed field, or inside a field
  *    2   the tag is not the one due
  *    3   the length is none that the tag may have
- *    4   address, level, direction, low or high outside its span, or in a file an address below 256 in two bytes or a
- *        direction of 0
+ *    4   address, level, direction, step, low or high outside its span, or in a file an address below 256 in two bytes,
+ *        a direction of 0 or a step of 1
  *    5   low above high
  *    6   time not above the one before; on a panel, the one before of the same head
  *    7   a 4,097th range
@@ -48,7 +48,7 @@ extern "C" {
 
 /* The least number of entries in each slice that a function fills. */
 #define HUMORAKI_READ_ROOM 4096     /* times, lows, highs */
-#define HUMORAKI_WRITE_ROOM 61456   /* the bytes of a trace file */
+#define HUMORAKI_WRITE_ROOM 61463   /* the bytes of a trace file */
 #define HUMORAKI_SEGMENT_ROOM 2048  /* each column of a segment's row */
 #define HUMORAKI_CORNER_ROOM 8192   /* ps, qs, ds, of humoraki_corners and of humoraki_latest */
 #define HUMORAKI_REPORT_ROOM 524544 /* the text of a report: 256 bytes for each of 2,049 lines */
@@ -72,6 +72,15 @@ extern "C" {
 #define HUMORAKI_RISING 0
 #define HUMORAKI_FALLING 1
 
+/*
+ * The step, in seconds: service can start only at its multiples, counted from time 0, such as the starts of shifts. It
+ * is taken behind each direction and set by humoraki_read. At 1 every second will do. Every time in some and all is such
+ * a multiple. A head past its level may have none: where its signal is at the next multiple decides, and it may have
+ * fallen back by then.
+ */
+#define HUMORAKI_LEAST_STEP 1
+#define HUMORAKI_MOST_STEP 86400
+
 /* What a range would do, in kind of humoraki_preview: join the last segment, or begin one. */
 #define HUMORAKI_JOINS 0
 #define HUMORAKI_BEGINS 1
@@ -93,8 +102,9 @@ extern "C" {
     int64_t *fast_ps, size_t fast_ps_len,          /* the p of its fast line */ \
     int64_t *fast_qs, size_t fast_qs_len,          /* the q */ \
     int64_t *fast_ds, size_t fast_ds_len,          /* the d */ \
-    uint64_t *somes, size_t somes_len,             /* the first time from its last on at which some fitting line */ \
-                                                   /* has reached the level, or HUMORAKI_NONE */ \
+    uint64_t *somes, size_t somes_len,             /* the first multiple of the step, from its last time on, at */ \
+                                                   /* which some fitting line has reached the level, or */ \
+                                                   /* HUMORAKI_NONE */ \
     uint64_t *alls, size_t alls_len                /* the first at which every fitting line has, or HUMORAKI_NONE */
 
 /*
@@ -107,6 +117,7 @@ extern "C" {
  * address    set to the detector's address, 1 to 65,535: up to 255 the file has it in one byte, above in two
  * level      set to the service level
  * direction  set to HUMORAKI_FALLING, which is 1, where the file says so, else to HUMORAKI_RISING, which is 0
+ * step       set to the step that the file says, 2 to 86,400, or to 1 where it says none
  * ranges     set to the number of ranges
  *
  * Refusals: 8, then field by field 1, 2, 3, 7, 1 for a body cut short, 4, 5, 6.
@@ -115,7 +126,7 @@ uint8_t humoraki_read(const uint8_t *file, size_t file_len,
                       uint32_t *times, size_t times_len,
                       int32_t *lows, size_t lows_len,
                       int32_t *highs, size_t highs_len,
-                      uint32_t *address, int32_t *level, uint32_t *direction, size_t *ranges);
+                      uint32_t *address, int32_t *level, uint32_t *direction, uint32_t *step, size_t *ranges);
 
 /*
  * Writes a trace file.
@@ -125,13 +136,14 @@ uint8_t humoraki_read(const uint8_t *file, size_t file_len,
  * level               the service level, -268,435,456 to 268,435,456
  * direction           HUMORAKI_RISING or HUMORAKI_FALLING; the file of a falling trace has a field more.
  *                     None is cut to fit: 256, whose last 8 bits are 0, is refused with 4
+ * step                1 to 86,400, else 4; the file has a field more, of seven bytes, exactly if it is not 1
  * times, lows, highs  the ranges, in lists of one length
- * file                filled with the file's bytes, at most 61,456
+ * file                filled with the file's bytes, at most 61,463
  * count               set to the number of bytes
  *
- * Refusals: 8, 10, 7, address, level and direction 4, then range by range 4, 5, 6.
+ * Refusals: 8, 10, 7, address, level, direction and step 4, then range by range 4, 5, 6.
  */
-uint8_t humoraki_write(uint32_t address, int32_t level, uint32_t direction,
+uint8_t humoraki_write(uint32_t address, int32_t level, uint32_t direction, uint32_t step,
                        const uint32_t *times, size_t times_len,
                        const int32_t *lows, size_t lows_len,
                        const int32_t *highs, size_t highs_len,
@@ -143,13 +155,14 @@ uint8_t humoraki_write(uint32_t address, int32_t level, uint32_t direction,
  *
  * level                     the service level, -268,435,456 to 268,435,456
  * direction                 HUMORAKI_RISING or HUMORAKI_FALLING; any other number is refused with 4
+ * step                      1 to 86,400; any other number is refused with 4
  * times, lows, highs        the ranges, in lists of one length
  * HUMORAKI_SEGMENT_COLUMNS  the columns, filled
  * count                     set to the number of segments
  *
- * Refusals: 8, 10, 7, level and direction 4, then range by range 4, 5, 6.
+ * Refusals: 8, 10, 7, level, direction and step 4, then range by range 4, 5, 6.
  */
-uint8_t humoraki_segment(int32_t level, uint32_t direction,
+uint8_t humoraki_segment(int32_t level, uint32_t direction, uint32_t step,
                          const uint32_t *times, size_t times_len,
                          const int32_t *lows, size_t lows_len,
                          const int32_t *highs, size_t highs_len,
@@ -181,6 +194,7 @@ uint8_t humoraki_corners(size_t k,
  *
  * level                   the service level, -268,435,456 to 268,435,456
  * direction               HUMORAKI_RISING or HUMORAKI_FALLING; any other number is refused with 4
+ * step                    1 to 86,400; any other number is refused with 4
  * times, lows, highs      the ranges so far, in lists of one length, at most 4,095; read and not changed
  * time                    that of the range, above that of the last range so far
  * low, high               its low and high, -268,435,456 to 268,435,456, low at most high
@@ -188,17 +202,17 @@ uint8_t humoraki_corners(size_t k,
  *                         segment more than the lists
  * slow_p, slow_q, slow_d  set to the slow line of the last segment: the value at t is (p * t + q) / d
  * fast_p, fast_q, fast_d  set to its fast line
- * some                    set to the first time, from that of the range on, at which some fitting line has reached the
- *                         level, as in humoraki_segment, or to HUMORAKI_NONE
+ * some                    set to the first multiple of the step, from the time of the range on, at which some fitting
+ *                         line has reached the level, as in humoraki_segment, or to HUMORAKI_NONE
  * all                     set to the first at which every fitting line has, or to HUMORAKI_NONE
  *
  * A segment of one range is open: the eight numbers after kind are set to 0. That is so exactly if the range begins it,
  * as the first range of all does, where the lists are empty. The d of a line is above 0.
  *
- * Refusals: 10, 7, level and direction 4, then range by range 4, 5, 6, the new range last. A full list, of 4,096
- * ranges, gets 7 whatever level, direction and range are. No slice is filled, so there is no 8.
+ * Refusals: 10, 7, level, direction and step 4, then range by range 4, 5, 6, the new range last. A full list, of 4,096
+ * ranges, gets 7 whatever level, direction, step and range are. No slice is filled, so there is no 8.
  */
-uint8_t humoraki_preview(int32_t level, uint32_t direction,
+uint8_t humoraki_preview(int32_t level, uint32_t direction, uint32_t step,
                          const uint32_t *times, size_t times_len,
                          const int32_t *lows, size_t lows_len,
                          const int32_t *highs, size_t highs_len,
@@ -214,13 +228,14 @@ uint8_t humoraki_preview(int32_t level, uint32_t direction,
  *
  * level                   the service level, -268,435,456 to 268,435,456
  * direction               HUMORAKI_RISING or HUMORAKI_FALLING; any other number is refused with 4
+ * step                    1 to 86,400; any other number is refused with 4
  * times, lows, highs      the ranges, in lists of one length
  * ps, qs, ds              filled with the corners, in corner order: the value at t is (p * t + q) / d
  * ranges                  set to the number of ranges of the run: it has the last ones of the lists
  * slow_p, slow_q, slow_d  set to the slow line of the run
  * fast_p, fast_q, fast_d  set to its fast line
- * some                    set to the first time, from that of the last range on, at which some fitting line has reached
- *                         the level, as in humoraki_segment, or to HUMORAKI_NONE
+ * some                    set to the first multiple of the step, from the time of the last range on, at which some
+ *                         fitting line has reached the level, as in humoraki_segment, or to HUMORAKI_NONE
  * all                     set to the first at which every fitting line has, or to HUMORAKI_NONE
  * corners                 set to the number of corners; 0 says that the run is open
  *
@@ -228,9 +243,9 @@ uint8_t humoraki_preview(int32_t level, uint32_t direction,
  * slow_p to all are set to 0, and there are no corners. Any two ranges have a line, so where the lists have two or more,
  * the run has at least two, and is not open. The d of a line is above 0.
  *
- * Refusals: 8, 10, 7, level and direction 4, then range by range 4, 5, 6.
+ * Refusals: 8, 10, 7, level, direction and step 4, then range by range 4, 5, 6.
  */
-uint8_t humoraki_latest(int32_t level, uint32_t direction,
+uint8_t humoraki_latest(int32_t level, uint32_t direction, uint32_t step,
                         const uint32_t *times, size_t times_len,
                         const int32_t *lows, size_t lows_len,
                         const int32_t *highs, size_t highs_len,
@@ -251,7 +266,7 @@ uint8_t humoraki_latest(int32_t level, uint32_t direction,
  * count  set to the number of bytes
  *
  * A file that is turned down has a report too, so 8, for a text that is too short, is the only refusal. The times are
- * those of the direction that the file says; the text itself does not tell which that is.
+ * those of the direction and the step that the file says; the text itself does not tell which these are.
  */
 uint8_t humoraki_report(const uint8_t *file, size_t file_len,
                         uint8_t *text, size_t text_len,
@@ -271,8 +286,8 @@ uint8_t humoraki_report(const uint8_t *file, size_t file_len,
  *     uint32_t addresses[HUMORAKI_PANEL_ROOM], times[HUMORAKI_PANEL_ROOM];
  *     int32_t lows[HUMORAKI_PANEL_ROOM], highs[HUMORAKI_PANEL_ROOM];
  *
- * The lists need not be initialised: no call reads a place past those held. A head's service level and direction, and
- * whatever else is known of it, stay with the caller.
+ * The lists need not be initialised: no call reads a place past those held. A head's service level, direction and step,
+ * and whatever else is known of it, stay with the caller.
  */
 typedef struct {
     uint32_t address; /* 1 to 65,535, in no other entry of the panel */

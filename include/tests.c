@@ -1,8 +1,8 @@
 /*
  * Tries from C what humoraki.h says of memory that is lent: a pointer beside a length of 0 may be null, and what a
  * function fills, sets or changes is written on success and left alone else. Then writes and reads back the addresses
- * at the ends of their span and both directions, hands in numbers past them, previews ranges, asks for latest trends,
- * and fills a panel. Prints what is not so, and then ends with 1.
+ * and the steps at the ends of their spans and both directions, hands in numbers past them, previews ranges, asks for
+ * latest trends, and fills a panel. Prints what is not so, and then ends with 1.
  */
 #include "humoraki.h"
 
@@ -24,7 +24,7 @@ static struct {
     int32_t held_lows[HUMORAKI_PANEL_ROOM], held_highs[HUMORAKI_PANEL_ROOM];
     uint32_t address;
     int32_t level;
-    uint32_t direction;
+    uint32_t direction, step;
     size_t ranges, count;
     uint32_t kind;
     int64_t slow_line[3], fast_line[3];
@@ -43,6 +43,9 @@ static void expect(int so, const char *call, const char *what) {
 /* A slice to be read, without entries. */
 #define EMPTY NULL, 0
 
+/* The direction and the step of a trace whose file has neither. */
+#define PLAIN HUMORAKI_RISING, HUMORAKI_LEAST_STEP
+
 /* A slice to be filled, lent whole, or as a null pointer where its place is the one that is missing. */
 #define SLICE(place, name) \
     missing == (place) ? NULL : lent.name, missing == (place) ? 0 : sizeof lent.name / sizeof lent.name[0]
@@ -50,18 +53,18 @@ static void expect(int so, const char *call, const char *what) {
 /* The calls without any range or byte, and without the slice at the missing place. */
 
 /* What Read sets. */
-#define RECORD &lent.address, &lent.level, &lent.direction, &lent.ranges
+#define RECORD &lent.address, &lent.level, &lent.direction, &lent.step, &lent.ranges
 
 static uint8_t call_read(int missing) {
     return humoraki_read(EMPTY, SLICE(0, times), SLICE(1, lows), SLICE(2, highs), RECORD);
 }
 
 static uint8_t call_write(int missing) {
-    return humoraki_write(7, 20, HUMORAKI_RISING, EMPTY, EMPTY, EMPTY, SLICE(0, file), &lent.count);
+    return humoraki_write(7, 20, PLAIN, EMPTY, EMPTY, EMPTY, SLICE(0, file), &lent.count);
 }
 
 static uint8_t call_segment(int missing) {
-    return humoraki_segment(20, HUMORAKI_RISING, EMPTY, EMPTY, EMPTY,
+    return humoraki_segment(20, PLAIN, EMPTY, EMPTY, EMPTY,
                             SLICE(0, first_times), SLICE(1, last_times), SLICE(2, counts),
                             SLICE(3, slow[0]), SLICE(4, slow[1]), SLICE(5, slow[2]),
                             SLICE(6, fast[0]), SLICE(7, fast[1]), SLICE(8, fast[2]),
@@ -86,7 +89,7 @@ static uint8_t call_corners(int missing) {
 /* Preview fills no slice, so none can be missing; its kind is told as the count. */
 static uint8_t call_preview(int missing) {
     (void)missing;
-    uint8_t number = humoraki_preview(20, HUMORAKI_RISING, EMPTY, EMPTY, EMPTY, 60, 13, 16, EFFECT);
+    uint8_t number = humoraki_preview(20, PLAIN, EMPTY, EMPTY, EMPTY, 60, 13, 16, EFFECT);
     if (number == 0)
         lent.count = lent.kind;
     return number;
@@ -96,7 +99,7 @@ static uint8_t call_preview(int missing) {
 #define TREND &lent.ranges, OUTLOOK, &lent.count
 
 static uint8_t call_latest(int missing) {
-    return humoraki_latest(20, HUMORAKI_RISING, EMPTY, EMPTY, EMPTY, CORNERS, TREND);
+    return humoraki_latest(20, PLAIN, EMPTY, EMPTY, EMPTY, CORNERS, TREND);
 }
 
 static uint8_t call_report(int missing) {
@@ -161,8 +164,7 @@ static void try_addresses(void) {
         uint32_t address = addresses[at].address;
         int missing = -1;
         mark();
-        uint8_t number =
-            humoraki_write(address, 20, HUMORAKI_RISING, EMPTY, EMPTY, EMPTY, SLICE(0, file), &lent.count);
+        uint8_t number = humoraki_write(address, 20, PLAIN, EMPTY, EMPTY, EMPTY, SLICE(0, file), &lent.count);
         if (number != addresses[at].number) {
             fprintf(stderr, "address %lu: ", (unsigned long)address);
         }
@@ -177,60 +179,87 @@ static void try_addresses(void) {
     }
 }
 
-/* Two ranges with one line, 40 - t, and the level 10: rising, it is reached at the last range already, falling at 30. */
+/* Two ranges with one line, 40 - t, and the level 10: rising, it is reached at the last range already and until 30,
+   falling at 30. */
 static const uint32_t two_times[] = {10, 20};
 static const int32_t two_values[] = {30, 20};
 #define TWO two_times, 2, two_values, 2, two_values, 2
 
-static uint8_t write_two(uint32_t direction) {
+static uint8_t write_two(uint32_t direction, uint32_t step) {
     int missing = -1;
-    return humoraki_write(7, 20, direction, TWO, SLICE(0, file), &lent.count);
+    return humoraki_write(7, 20, direction, step, TWO, SLICE(0, file), &lent.count);
 }
 
-static uint8_t segment_two(uint32_t direction) {
+static uint8_t segment_two(uint32_t direction, uint32_t step) {
     int missing = -1;
-    return humoraki_segment(10, direction, TWO,
+    return humoraki_segment(10, direction, step, TWO,
                             SLICE(0, first_times), SLICE(1, last_times), SLICE(2, counts),
                             SLICE(3, slow[0]), SLICE(4, slow[1]), SLICE(5, slow[2]),
                             SLICE(6, fast[0]), SLICE(7, fast[1]), SLICE(8, fast[2]),
                             SLICE(9, somes), SLICE(10, alls), &lent.count);
 }
 
-static uint8_t preview_two(uint32_t direction) {
-    return humoraki_preview(10, direction, TWO, 25, 15, 15, EFFECT);
+static uint8_t preview_two(uint32_t direction, uint32_t step) {
+    return humoraki_preview(10, direction, step, TWO, 25, 15, 15, EFFECT);
 }
 
-static uint8_t latest_two(uint32_t direction) {
+static uint8_t latest_two(uint32_t direction, uint32_t step) {
     int missing = -1;
-    return humoraki_latest(10, direction, TWO, CORNERS, TREND);
+    return humoraki_latest(10, direction, step, TWO, CORNERS, TREND);
 }
 
-/* Both directions: each comes back from its file, and the line reaches the level when it does in that direction, with
-   the two ranges and with one range more. */
-static void try_direction(uint32_t direction, size_t count, uint64_t two, uint64_t three) {
+/* Directions and steps: both come back from their file, and the line reaches the level when it does in that direction,
+   at a multiple of the step, with the two ranges and with one range more. */
+static const struct {
+    uint32_t direction, step;
+    size_t count;
+    uint64_t two, three;
+} services[] = {
+    {HUMORAKI_RISING, 1, 41, 20, 25},
+    {HUMORAKI_FALLING, 1, 45, 30, 30},
+    {HUMORAKI_RISING, 7, 48, 21, 28},
+    {HUMORAKI_FALLING, 7, 52, 35, 35},
+    {HUMORAKI_RISING, 30, 48, 30, 30},
+    {HUMORAKI_RISING, 31, 48, HUMORAKI_NONE, HUMORAKI_NONE},
+    {HUMORAKI_RISING, HUMORAKI_MOST_STEP, 48, HUMORAKI_NONE, HUMORAKI_NONE},
+    {HUMORAKI_FALLING, HUMORAKI_MOST_STEP, 52, HUMORAKI_MOST_STEP, HUMORAKI_MOST_STEP},
+};
+
+static void try_service(size_t at) {
+    uint32_t direction = services[at].direction, step = services[at].step;
+    uint64_t two = services[at].two, three = services[at].three;
     int missing = -1;
     mark();
-    expect(write_two(direction) == 0 && lent.count == count, "write", "another count for a direction");
+    expect(write_two(direction, step) == 0 && lent.count == services[at].count, "write", "another count for a service");
     expect(humoraki_read(lent.file, lent.count, SLICE(0, times), SLICE(1, lows), SLICE(2, highs), RECORD) == 0 &&
-               lent.direction == direction,
-           "read", "a direction does not come back");
-    expect(segment_two(direction) == 0 && lent.somes[0] == two && lent.alls[0] == two, "segment", "another time");
-    expect(preview_two(direction) == 0 && lent.some == three && lent.all == three, "preview", "another time");
-    expect(latest_two(direction) == 0 && lent.some == two && lent.all == two, "latest", "another time");
+               lent.direction == direction && lent.step == step,
+           "read", "a direction or a step does not come back");
+    expect(segment_two(direction, step) == 0 && lent.somes[0] == two && lent.alls[0] == two, "segment", "another time");
+    expect(preview_two(direction, step) == 0 && lent.some == three && lent.all == three, "preview", "another time");
+    expect(latest_two(direction, step) == 0 && lent.some == two && lent.all == two, "latest", "another time");
 }
 
-static void try_directions(void) {
-    static const uint32_t outside[] = {2, 255, 256, 65536, 65537, UINT32_MAX};
-    try_direction(HUMORAKI_RISING, 41, 20, 25);
-    try_direction(HUMORAKI_FALLING, 45, 30, 30);
+/* Each call with a level refuses a number that is no direction, or one that is no step, with 4. */
+static void try_refused_service(uint32_t direction, uint32_t step) {
+    expect(write_two(direction, step) == 4, "write", "no direction, or no step, and not refused with 4");
+    expect(segment_two(direction, step) == 4, "segment", "no direction, or no step, and not refused with 4");
+    expect(preview_two(direction, step) == 4, "preview", "no direction, or no step, and not refused with 4");
+    expect(latest_two(direction, step) == 4, "latest", "no direction, or no step, and not refused with 4");
+}
+
+static void try_services(void) {
+    static const uint32_t directions[] = {2, 255, 256, 65536, 65537, UINT32_MAX};
+    static const uint32_t steps[] = {0, HUMORAKI_MOST_STEP + 1, 131132, UINT32_C(1) << 31, UINT32_MAX};
+    for (size_t at = 0; at < sizeof services / sizeof services[0]; at++)
+        try_service(at);
     mark();
-    for (size_t at = 0; at < sizeof outside / sizeof outside[0]; at++) {
-        expect(write_two(outside[at]) == 4, "write", "a number that is no direction is not refused with 4");
-        expect(segment_two(outside[at]) == 4, "segment", "a number that is no direction is not refused with 4");
-        expect(preview_two(outside[at]) == 4, "preview", "a number that is no direction is not refused with 4");
-        expect(latest_two(outside[at]) == 4, "latest", "a number that is no direction is not refused with 4");
+    for (size_t at = 0; at < sizeof directions / sizeof directions[0]; at++)
+        try_refused_service(directions[at], HUMORAKI_LEAST_STEP);
+    for (size_t at = 0; at < sizeof steps / sizeof steps[0]; at++) {
+        try_refused_service(HUMORAKI_RISING, steps[at]);
+        try_refused_service(HUMORAKI_FALLING, steps[at]);
     }
-    expect(kept(), "segment", "something is changed although the direction is refused");
+    expect(kept(), "segment", "something is changed although the direction or the step is refused");
 }
 
 /* The first so many ranges of the first sample. */
@@ -249,8 +278,8 @@ static void expect_outlook(const char *call, const int64_t outlook[8]) {
 static void try_preview(int32_t level, uint32_t time, int32_t low, int32_t high, uint8_t number, uint32_t kind,
                         const int64_t outlook[8]) {
     mark();
-    expect(humoraki_preview(level, HUMORAKI_RISING, SAMPLE(5), time, low, high, EFFECT) == number,
-           "preview", "another number");
+    expect(humoraki_preview(level, PLAIN, SAMPLE(5), time, low, high, EFFECT) == number, "preview",
+           "another number");
     if (number != 0) {
         expect(kept(), "preview", "something is changed by a refusal");
         return;
@@ -275,7 +304,7 @@ static void try_latest(size_t count, size_t ranges, const int64_t outlook[8], si
     int missing = -1;
     mark();
     int64_t past = lent.ps[corners];
-    expect(humoraki_latest(20, HUMORAKI_RISING, SAMPLE(count), CORNERS, TREND) == 0, "latest", "another number");
+    expect(humoraki_latest(20, PLAIN, SAMPLE(count), CORNERS, TREND) == 0, "latest", "another number");
     expect(lent.ranges == ranges, "latest", "another number of ranges");
     expect_outlook("latest", outlook);
     expect(lent.count == corners, "latest", "another number of corners");
@@ -298,10 +327,10 @@ static void try_latest_trends(void) {
     try_latest(1, 1, open, 0, NULL);
     try_latest(0, 0, open, 0, NULL);
     mark();
-    expect(humoraki_latest(INT32_MAX, HUMORAKI_RISING, SAMPLE(5), CORNERS, TREND) == 4, "latest", "another number");
-    expect(humoraki_latest(20, HUMORAKI_RISING, sample_times, 5, sample_highs, 5, sample_lows, 5, CORNERS, TREND) == 5,
+    expect(humoraki_latest(INT32_MAX, PLAIN, SAMPLE(5), CORNERS, TREND) == 4, "latest", "another number");
+    expect(humoraki_latest(20, PLAIN, sample_times, 5, sample_highs, 5, sample_lows, 5, CORNERS, TREND) == 5,
            "latest", "another number");
-    expect(humoraki_latest(20, HUMORAKI_RISING, sample_times, 5, sample_lows, 4, sample_highs, 5, CORNERS, TREND) == 10,
+    expect(humoraki_latest(20, PLAIN, sample_times, 5, sample_lows, 4, sample_highs, 5, CORNERS, TREND) == 10,
            "latest", "another number");
     expect(kept(), "latest", "something is changed by a refusal");
 }
@@ -370,7 +399,7 @@ int main(void) {
             expect(kept(), name, "something is changed by a refusal");
     }
     try_addresses();
-    try_directions();
+    try_services();
     try_previews();
     try_latest_trends();
     try_panel();

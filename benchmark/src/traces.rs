@@ -1,7 +1,7 @@
 //! The traces that are measured, in three shapes, one of them upside down as well.
 
 use crate::random::Random;
-use humoraki::{Direction, Trace};
+use humoraki::{Direction, LEAST_STEP, Trace};
 
 /// Large, so that the times have as many digits in a short trace as in a long one.
 const FIRST_TIME: i64 = 10_000_000;
@@ -23,6 +23,7 @@ fn trace(level: i32, ranges: impl Iterator<Item = (i64, i64, i64)>) -> Trace {
         address: 1,
         level,
         direction: Direction::Rising,
+        step: LEAST_STEP,
         times: Vec::new(),
         lows: Vec::new(),
         highs: Vec::new(),
@@ -61,10 +62,10 @@ fn short_segments(n: usize, random: &mut Random) -> Trace {
 }
 
 fn falling_segments(n: usize, random: &mut Random) -> Trace {
-    let Trace { address, level, times, lows, highs, .. } = short_segments(n, random);
-    let negated = |values: Vec<i32>| values.into_iter().map(|value| -value).collect();
-    let (lows, highs) = (negated(highs), negated(lows));
-    Trace { address, level: -level, direction: Direction::Falling, times, lows, highs }
+    let rising = short_segments(n, random);
+    let negated = |values: &[i32]| values.iter().map(|value| -value).collect();
+    let (lows, highs) = (negated(&rising.highs), negated(&rising.lows));
+    Trace { level: -rising.level, direction: Direction::Falling, lows, highs, ..rising }
 }
 
 fn large_chains(n: usize, random: &mut Random) -> Trace {

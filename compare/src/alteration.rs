@@ -123,7 +123,7 @@ mod tests {
     /// entries in 3 and the lists in 4.
     #[test]
     fn no_call_is_left_out() {
-        assert_eq!(of_call("read").len(), 2 + 3 * 5 + 4 * 3);
+        assert_eq!(of_call("read").len(), 2 + 3 * 6 + 4 * 3);
         assert_eq!(of_call("write").len(), 2 + 4 * 3 + 4);
         assert_eq!(of_call("segment").len(), 2 + 3 * 4 + 4 * PLACES);
         assert_eq!(of_call("corners").len(), 2 + 3 * 4 + 4 * 3);

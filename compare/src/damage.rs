@@ -3,21 +3,31 @@
 // Damages of one kind have one type, though some need no more than a slice.
 #![allow(clippy::ptr_arg)]
 
-use crate::file::{bytes, field_start, fields_of_header};
+use crate::file::{DIRECTION_TAG, STEP_TAG, bytes, field_start, field_with, fields_of_header};
 use crate::random::Random;
 use crate::trace::{LARGEST_VALUE, LEAST_VALUE, Trace};
-use crate::traces::services::no_direction;
+use crate::traces::services::{no_direction, no_step};
 
 type ValueDamage = fn(&mut Trace, &mut Random);
 type ByteDamage = fn(&mut Vec<u8>, &mut Random);
 
-const OF_VALUES: [ValueDamage; 7] =
-    [zero_address, level_outside, direction_outside, low_outside, high_outside, low_above_high, time_not_rising];
-const OF_BYTES: [ByteDamage; 14] = [
+const OF_VALUES: [ValueDamage; 8] = [
+    zero_address,
+    level_outside,
+    direction_outside,
+    step_outside,
+    low_outside,
+    high_outside,
+    low_above_high,
+    time_not_rising,
+];
+const OF_BYTES: [ByteDamage; 16] = [
     address_widened,
     address_length_turned,
     direction_put,
     direction_changed,
+    step_put,
+    step_changed,
     other_tag,
     other_length,
     field_removed,
@@ -62,6 +72,10 @@ fn level_outside(trace: &mut Trace, random: &mut Random) {
 /// The file has its last eight bits, which may be good ones.
 fn direction_outside(trace: &mut Trace, random: &mut Random) {
     trace.service.direction = no_direction(random);
+}
+
+fn step_outside(trace: &mut Trace, random: &mut Random) {
+    trace.service.step = no_step(random);
 }
 
 fn low_outside(trace: &mut Trace, random: &mut Random) {
@@ -111,18 +125,37 @@ fn address_length_turned(file: &mut Vec<u8>, random: &mut Random) {
     }
 }
 
-/// Puts a direction before some field or behind the last, good or not. Where one may stand, it is good or one too many.
 fn direction_put(file: &mut Vec<u8>, random: &mut Random) {
-    let any = some_field(file, random).unwrap_or(0);
-    let start = random.pick(&[field_start(file, 2), any, file.len()]).min(file.len());
-    file.splice(start..start, direction_field(random));
+    let field = direction_field(random);
+    put(file, field, random);
 }
 
-/// Puts another direction in the place of one that is there.
+fn step_put(file: &mut Vec<u8>, random: &mut Random) {
+    let field = step_field(random);
+    put(file, field, random);
+}
+
+/// Puts a field before some field or behind the last, good or not. Where one may stand, it is good or one too many.
+fn put(file: &mut Vec<u8>, field: Vec<u8>, random: &mut Random) {
+    let any = some_field(file, random).unwrap_or(0);
+    let first_range = field_start(file, fields_of_header(file));
+    let start = random.pick(&[field_start(file, 2), first_range, any, file.len()]).min(file.len());
+    file.splice(start..start, field);
+}
+
 fn direction_changed(file: &mut Vec<u8>, random: &mut Random) {
-    if fields_of_header(file) == 3 {
-        let end = file.len().min(field_start(file, 3));
-        file.splice(field_start(file, 2)..end, direction_field(random));
+    change(file, DIRECTION_TAG, direction_field(random));
+}
+
+fn step_changed(file: &mut Vec<u8>, random: &mut Random) {
+    change(file, STEP_TAG, step_field(random));
+}
+
+/// Puts a field in the place of one with a tag, if that is there.
+fn change(file: &mut Vec<u8>, tag: u8, by: Vec<u8>) {
+    if let Some(field) = field_with(file, tag) {
+        let end = file.len().min(field_start(file, field + 1));
+        file.splice(field_start(file, field)..end, by);
     }
 }
 
@@ -134,9 +167,19 @@ fn direction_field(random: &mut Random) -> Vec<u8> {
     [vec![4, 0, length], vec![value; body]].concat()
 }
 
+/// A field with tag 5, likewise.
+fn step_field(random: &mut Random) -> Vec<u8> {
+    let far = no_step(random);
+    let value: u32 = random.pick(&[2, 60, 28_800, 86_400, 0, 1, 86_401, far]);
+    let length = random.pick(&[4, 4, 4, 0, 2, 3, 5]);
+    let mut body = value.to_be_bytes().to_vec();
+    body.resize(random.pick(&[4, length as usize]), 0);
+    [vec![5, 0, length], body].concat()
+}
+
 fn other_tag(file: &mut Vec<u8>, random: &mut Random) {
     if let Some(start) = some_field(file, random) {
-        file[start] = random.pick(&[0, 1, 2, 3, 4, 5, 255]);
+        file[start] = random.pick(&[0, 1, 2, 3, 4, 5, 6, 255]);
     }
 }
 

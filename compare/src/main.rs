@@ -94,6 +94,8 @@ fn all_rounds(desk: &mut Desk, traces: usize) -> Outcome {
     rounds::small_traces::compare(desk, traces)?;
     rounds::addresses::compare(desk)?;
     rounds::directions::compare(desk)?;
+    rounds::steps::compare(desk)?;
+    rounds::shifts::compare(desk)?;
     rounds::lowest_terms::compare(desk)?;
     rounds::digits::compare(desk)?;
     rounds::damaged_files::compare(desk, traces)?;

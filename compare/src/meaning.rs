@@ -7,10 +7,11 @@ use crate::line::{Line, turn};
 use crate::outlook::Outlook;
 use crate::segments::{BY_CLIPPING, BY_TRYING, Segment, Stage, stages};
 use crate::splits::{closed_by_three, no_split_is_better};
-use crate::trace::{FALLING, Lists, Range, Service, Trace};
+use crate::trace::{FALLING, LAST_TIME, Lists, Range, Service, Trace};
+use std::iter::successors;
 
-/// How many times from a segment's last are tried one by one.
-const TRIED: u32 = 60;
+/// How many multiples of the step from a segment's last time on are tried one by one.
+const TRIED: usize = 60;
 
 /// The stages are those of the trace by trying all lines, and the segments come from them.
 pub fn check(trace: &Trace, stages: &[Stage], segments: &[Segment]) -> Outcome {
@@ -77,15 +78,15 @@ fn corners_are_sound(run: &[Range], corners: &[Line]) -> bool {
     fit && (count < 3 || (0..count).all(right)) && (count == 0) == (run.len() == 1)
 }
 
-/// Both times are tried one by one for a while, and wherever a corner crosses the level.
+/// Both times are tried one multiple of the step after the other for a while, and wherever a corner crosses the level.
 fn times_are_least(segment: &Segment, corners: &[Line], service: Service) -> bool {
     let Outlook::Lines { some, all, .. } = segment.outlook else {
         return segment.count == 1;
     };
     let some_has = |time: u32| corners.iter().any(|line| has_reached(line, time as i128, service));
     let all_have = |time: u32| corners.iter().all(|line| has_reached(line, time as i128, service));
-    let mut tried: Vec<u32> = (segment.last..=segment.last.saturating_add(TRIED)).collect();
-    let crossings = corners.iter().flat_map(|line| crossings(line, service.level));
+    let mut tried: Vec<u32> = multiples_from(segment.last, service.step).take(TRIED).collect();
+    let crossings = corners.iter().flat_map(|line| crossings(line, service));
     tried.extend(crossings.filter(|&time| time >= segment.last));
     tried.sort();
     let first = |holds: &dyn Fn(u32) -> bool| tried.iter().copied().find(|&time| holds(time));
@@ -98,11 +99,19 @@ pub fn has_reached(line: &Line, time: i128, service: Service) -> bool {
     if service.direction == FALLING { above <= 0 } else { above >= 0 }
 }
 
-/// The times next to the one at which a line is at the level, on both sides.
-fn crossings(line: &Line, level: i32) -> Vec<u32> {
+/// The multiples of a step from a time on, as long as there are times.
+fn multiples_from(from: u32, step: u32) -> impl Iterator<Item = u32> {
+    let is_multiple = move |time: &u32| time % step == 0;
+    let first = (from..=LAST_TIME).take(step as usize).find(is_multiple);
+    successors(first, move |time| time.checked_add(step))
+}
+
+/// The multiples of the step next to the time at which a line is at the level, on both sides.
+fn crossings(line: &Line, service: Service) -> Vec<u32> {
     if line.p == 0 {
         return Vec::new();
     }
-    let time = (line.d * level as i128 - line.q) / line.p;
-    (time - 1..=time + 1).filter_map(|time| u32::try_from(time).ok()).collect()
+    let step = service.step as i128;
+    let turn = (line.d * service.level as i128 - line.q) / line.p / step;
+    (turn - 1..=turn + 1).filter_map(|turn| u32::try_from(turn * step).ok()).collect()
 }

@@ -1,6 +1,6 @@
-//! The mirror image of what a call is handed, with level, lows and highs negated, lows and highs exchanged and the
-//! direction turned, and the image of what it has to give then: each line the negated other one, slow for fast, and
-//! the same times.
+//! The mirror image of what a call is handed, with level, lows and highs negated, lows and highs exchanged, the
+//! direction turned and the same step, and the image of what it has to give then: each line the negated other one, slow
+//! for fast, and the same times.
 //!
 //! What is expected of a call is found without this: here the image of one answer is held against another.
 
@@ -18,7 +18,7 @@ pub fn service(service: Service) -> Service {
         FALLING => RISING,
         other => other,
     };
-    Service { level: service.level.wrapping_neg(), direction }
+    Service { level: service.level.wrapping_neg(), direction, step: service.step }
 }
 
 pub fn range(range: &Range) -> Range {

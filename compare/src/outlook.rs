@@ -19,10 +19,8 @@ pub fn outlook(corners: &[Line], last: u32, service: Service) -> Outlook {
         return Outlook::Open;
     };
     let spans: Vec<Span> = corners.iter().map(|line| reached(line, last, service)).collect();
-    let some = spans.iter().filter(|span| span.from <= span.to).map(|span| span.from).min();
-    let from = spans.iter().map(|span| span.from).max();
-    let to = spans.iter().map(|span| span.to).min();
-    let all = from.filter(|from| to.is_some_and(|to| *from <= to));
+    let some = spans.iter().filter_map(|span| span.first_multiple(service.step)).min();
+    let all = spans.into_iter().fold(Span::after(last), Span::common).first_multiple(service.step);
     Outlook::Lines { slow, fast, some: some.map(time), all: all.map(time) }
 }
 
@@ -32,9 +30,28 @@ struct Span {
     to: i128,
 }
 
+impl Span {
+    /// All times from the last one on.
+    fn after(last: u32) -> Span {
+        Span { from: last as i128, to: LAST_TIME as i128 }
+    }
+
+    /// The times of both.
+    fn common(self, other: Span) -> Span {
+        Span { from: self.from.max(other.from), to: self.to.min(other.to) }
+    }
+
+    /// The least multiple of a step among the times.
+    fn first_multiple(&self, step: u32) -> Option<i128> {
+        let over = self.from.rem_euclid(step as i128);
+        let multiple = if over == 0 { self.from } else { self.from - over + step as i128 };
+        (multiple <= self.to).then_some(multiple)
+    }
+}
+
 /// The times from the last time on at which one line is at or above the level, or at or below it if the trace falls.
 fn reached(line: &Line, last: u32, service: Service) -> Span {
-    let whole = Span { from: last as i128, to: LAST_TIME as i128 };
+    let whole = Span::after(last);
     let bound = line.d * service.level as i128 - line.q;
     if service.direction == FALLING { at_most(line.p, bound, whole) } else { at_least(line.p, bound, whole) }
 }

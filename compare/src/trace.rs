@@ -10,11 +10,16 @@ pub const LARGEST_ADDRESS: u32 = 65_535;
 pub const RISING: u32 = 0;
 pub const FALLING: u32 = 1;
 
+/// The step of a file that says none, and the largest that there is.
+pub const EVERY_SECOND: u32 = 1;
+pub const LARGEST_STEP: u32 = 86_400;
+
 /// What a call takes with lists to tell times, as a caller may hand it in: with any numbers.
 #[derive(Clone, Copy, PartialEq, Eq, Debug)]
 pub struct Service {
     pub level: i32,
     pub direction: u32,
+    pub step: u32,
 }
 
 #[derive(Clone, Copy, PartialEq, Eq, Debug)]
@@ -32,16 +37,24 @@ pub struct Trace {
 }
 
 impl Service {
-    pub fn rising(level: i32) -> Service {
-        Service { level, direction: RISING }
+    pub const fn rising(level: i32) -> Service {
+        Service { level, direction: RISING, step: EVERY_SECOND }
     }
 
-    pub fn falling(level: i32) -> Service {
-        Service { level, direction: FALLING }
+    pub const fn falling(level: i32) -> Service {
+        Service { direction: FALLING, ..Service::rising(level) }
+    }
+
+    pub const fn toward(self, direction: u32) -> Service {
+        Service { direction, ..self }
+    }
+
+    pub const fn every(self, step: u32) -> Service {
+        Service { step, ..self }
     }
 
     pub fn in_words(&self) -> String {
-        format!("level {}, direction {}", self.level, self.direction)
+        format!("level {}, direction {}, step {}", self.level, self.direction, self.step)
     }
 }
 

@@ -18,8 +18,9 @@ macro_rules! segment_columns {
             fast_ps: i64,
             fast_qs: i64,
             fast_ds: i64,
-            // the first times, from the segment's last on, at which some fitting line and at which every fitting line
-            // has reached the level, at or above it on a rising trace, at or below it on a falling one, or `NONE`
+            // the first multiples of the step, not before the segment's last time, at which some fitting line and at
+            // which every fitting line has reached the level, at or above it on a rising trace, at or below it on a
+            // falling one, or `NONE`
             somes: u64,
             alls: u64,
         }

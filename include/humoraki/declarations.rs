@@ -15,11 +15,11 @@ macro_rules! declare {
                 times: *mut u32, times_len: usize,
                 lows: *mut i32, lows_len: usize,
                 highs: *mut i32, highs_len: usize,
-                address: *mut u32, level: *mut i32, direction: *mut u32, ranges: *mut usize,
+                address: *mut u32, level: *mut i32, direction: *mut u32, step: *mut u32, ranges: *mut usize,
             ) -> u8;
 
             pub fn humoraki_write(
-                address: u32, level: i32, direction: u32,
+                address: u32, level: i32, direction: u32, step: u32,
                 times: *const u32, times_len: usize,
                 lows: *const i32, lows_len: usize,
                 highs: *const i32, highs_len: usize,
@@ -28,7 +28,7 @@ macro_rules! declare {
             ) -> u8;
 
             pub fn humoraki_segment(
-                level: i32, direction: u32,
+                level: i32, direction: u32, step: u32,
                 times: *const u32, times_len: usize,
                 lows: *const i32, lows_len: usize,
                 highs: *const i32, highs_len: usize,
@@ -48,7 +48,7 @@ macro_rules! declare {
             ) -> u8;
 
             pub fn humoraki_preview(
-                level: i32, direction: u32,
+                level: i32, direction: u32, step: u32,
                 times: *const u32, times_len: usize,
                 lows: *const i32, lows_len: usize,
                 highs: *const i32, highs_len: usize,
@@ -60,7 +60,7 @@ macro_rules! declare {
             ) -> u8;
 
             pub fn humoraki_latest(
-                level: i32, direction: u32,
+                level: i32, direction: u32, step: u32,
                 times: *const u32, times_len: usize,
                 lows: *const i32, lows_len: usize,
                 highs: *const i32, highs_len: usize,

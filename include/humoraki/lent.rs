@@ -10,12 +10,14 @@ use super::declarations::{
 };
 use super::{Entry, SEGMENT_ROOM};
 
-/// What a detector is watched for: the level, and the number of the direction in which its signal drifts, `RISING` or
-/// `FALLING`. Any other number is refused with 4, and none is cut to fit.
+/// What a detector is watched for: the level, the number of the direction in which its signal drifts, `RISING` or
+/// `FALLING`, and the step, `LEAST_STEP` to `MOST_STEP` seconds, at whose multiples service can start. Any other number
+/// is refused with 4, and none is cut to fit.
 #[derive(Clone, Copy, Debug, PartialEq, Eq)]
 pub struct Service {
     pub level: i32,
     pub direction: u32,
+    pub step: u32,
 }
 
 /// The ranges of a trace, in three lists.
@@ -33,11 +35,12 @@ pub struct Lines<'a> {
     pub ds: &'a mut [i64],
 }
 
-/// The numbers of a trace's record, to be set; `direction` is `RISING` or `FALLING`.
+/// The numbers of a trace's record, to be set; `direction` is `RISING` or `FALLING`, `step` is 1 where the file has none.
 pub struct RecordMut<'a> {
     pub address: &'a mut u32,
     pub level: &'a mut i32,
     pub direction: &'a mut u32,
+    pub step: &'a mut u32,
     pub ranges: &'a mut usize,
 }
 
@@ -116,15 +119,15 @@ macro_rules! call {
 
 /// Reads a trace file: fills three slices with its ranges, and sets the numbers of its record.
 pub fn read(file: &[u8], into: RangesMut, record: RecordMut) -> Result<(), u8> {
-    let RecordMut { address, level, direction, ranges } = record;
-    call!(humoraki_read(; file; ; into.times, into.lows, into.highs; address, level, direction, ranges))
+    let RecordMut { address, level, direction, step, ranges } = record;
+    call!(humoraki_read(; file; ; into.times, into.lows, into.highs; address, level, direction, step, ranges))
 }
 
 /// Fills a slice with the bytes of a trace's file, and sets their count. An address is 1 to 65,535; any other number is
 /// refused with 4.
 pub fn write(address: u32, service: Service, ranges: Ranges, file: &mut [u8], count: &mut usize) -> Result<(), u8> {
-    let Service { level, direction } = service;
-    call!(humoraki_write(address, level, direction; ranges.times, ranges.lows, ranges.highs; ; file; count))
+    let Service { level, direction, step } = service;
+    call!(humoraki_write(address, level, direction, step; ranges.times, ranges.lows, ranges.highs; ; file; count))
 }
 
 /// Fills three slices with the corners of the fit of the segment then running after the first k ranges, and sets their
@@ -142,10 +145,10 @@ pub fn preview(
     high: i32,
     effect: EffectMut,
 ) -> Result<(), u8> {
-    let Service { level, direction } = service;
+    let Service { level, direction, step } = service;
     let EffectMut { kind, slow_p, slow_q, slow_d, fast_p, fast_q, fast_d, some, all } = effect;
     call!(humoraki_preview(
-        level, direction; ranges.times, ranges.lows, ranges.highs; ; ;
+        level, direction, step; ranges.times, ranges.lows, ranges.highs; ; ;
         time, low, high, kind, slow_p, slow_q, slow_d, fast_p, fast_q, fast_d, some, all
     ))
 }
@@ -153,10 +156,10 @@ pub fn preview(
 /// Fills three slices with the corners of the longest run at the end that some line fits, and sets the numbers of this
 /// trend.
 pub fn latest(service: Service, ranges: Ranges, corners: Lines, trend: TrendMut) -> Result<(), u8> {
-    let Service { level, direction } = service;
+    let Service { level, direction, step } = service;
     let TrendMut { ranges: run, slow_p, slow_q, slow_d, fast_p, fast_q, fast_d, some, all, corners: count } = trend;
     call!(humoraki_latest(
-        level, direction; ranges.times, ranges.lows, ranges.highs; ; corners.ps, corners.qs, corners.ds;
+        level, direction, step; ranges.times, ranges.lows, ranges.highs; ; corners.ps, corners.qs, corners.ds;
         run, slow_p, slow_q, slow_d, fast_p, fast_q, fast_d, some, all, count
     ))
 }
@@ -190,9 +193,9 @@ macro_rules! over_columns {
 
         /// Fills the columns with the segments of a trace, and sets their count.
         pub fn segment(service: Service, ranges: Ranges, columns: Columns, count: &mut usize) -> Result<(), u8> {
-            let Service { level, direction } = service;
+            let Service { level, direction, step } = service;
             call!(humoraki_segment(
-                level, direction; ranges.times, ranges.lows, ranges.highs; ; $(columns.$column),*; count
+                level, direction, step; ranges.times, ranges.lows, ranges.highs; ; $(columns.$column),*; count
             ))
         }
 

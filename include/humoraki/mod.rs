@@ -26,7 +26,7 @@ use self::lent::{EffectMut, Lines, Ranges, RangesMut, RecordMut, Service, Table,
 pub const READ_ROOM: usize = 4096;
 
 /// The least length of the file that `lent::write` fills.
-pub const WRITE_ROOM: usize = 61_456;
+pub const WRITE_ROOM: usize = 61_463;
 
 /// The least length of each column that `lent::segment` fills.
 pub const SEGMENT_ROOM: usize = 2048;
@@ -53,6 +53,12 @@ pub const RISING: u32 = 0;
 /// That of one whose signal dust lowers, as of a beam head.
 pub const FALLING: u32 = 1;
 
+/// The least step in `lent::Service`, with which service can start at any second. A file without a step has it.
+pub const LEAST_STEP: u32 = 1;
+
+/// The greatest step, a day.
+pub const MOST_STEP: u32 = 86_400;
+
 /// The kind that `lent::preview` sets where the range joins the last segment.
 pub const JOINS: u32 = 0;
 
@@ -77,13 +83,14 @@ impl Direction {
     }
 }
 
-/// A trace: a detector's address, 1 to 65,535, its service level, the direction in which its signal drifts, and its
-/// ranges, in three lists of one length.
+/// A trace: a detector's address, 1 to 65,535, its service level, the direction in which its signal drifts, the step, 1
+/// to 86,400 seconds, at whose multiples service can start, and its ranges, in three lists of one length.
 #[derive(Clone, Debug, PartialEq, Eq)]
 pub struct Trace {
     pub address: u32,
     pub level: i32,
     pub direction: Direction,
+    pub step: u32,
     pub times: Vec<u32>,
     pub lows: Vec<i32>,
     pub highs: Vec<i32>,
@@ -91,7 +98,7 @@ pub struct Trace {
 
 impl Trace {
     pub fn service(&self) -> Service {
-        Service { level: self.level, direction: self.direction.number() }
+        Service { level: self.level, direction: self.direction.number(), step: self.step }
     }
 
     pub fn ranges(&self) -> Ranges<'_> {
@@ -107,7 +114,8 @@ pub struct Line {
     pub d: i64,
 }
 
-/// The lines of a segment and its two times, or open where it has one range. `None` is no such time.
+/// The lines of a segment and its two times, both multiples of the step, or open where it has one range. `None` is no
+/// such time.
 #[derive(Clone, Copy, Debug, PartialEq, Eq)]
 pub enum Outlook {
     Open,
@@ -156,8 +164,8 @@ pub fn meaning(refusal: u8) -> &'static str {
         2 => "the tag is not the one due",
         3 => "the length is none that the tag may have",
         4 => {
-            "address, level, direction, low or high outside its span, or in a file an address below 256 in two bytes \
-             or a direction of 0"
+            "address, level, direction, step, low or high outside its span, or in a file an address below 256 in two \
+             bytes, a direction of 0 or a step of 1"
         }
         5 => "low above high",
         6 => "time not above the one before; on a panel, the one before of the same head",
@@ -180,20 +188,25 @@ pub fn read(file: &[u8]) -> Result<Trace, u8> {
     let mut times = vec![0; READ_ROOM];
     let mut lows = vec![0; READ_ROOM];
     let mut highs = vec![0; READ_ROOM];
-    let (mut address, mut level, mut direction, mut ranges) = (0, 0, 0, 0);
+    let (mut address, mut level, mut direction, mut step, mut ranges) = (0, 0, 0, 0, 0);
     let into = RangesMut { times: &mut times, lows: &mut lows, highs: &mut highs };
-    let record =
-        RecordMut { address: &mut address, level: &mut level, direction: &mut direction, ranges: &mut ranges };
+    let record = RecordMut {
+        address: &mut address,
+        level: &mut level,
+        direction: &mut direction,
+        step: &mut step,
+        ranges: &mut ranges,
+    };
     lent::read(file, into, record)?;
     times.truncate(ranges);
     lows.truncate(ranges);
     highs.truncate(ranges);
     let direction = if direction == RISING { Direction::Rising } else { Direction::Falling };
-    Ok(Trace { address, level, direction, times, lows, highs })
+    Ok(Trace { address, level, direction, step, times, lows, highs })
 }
 
 /// The bytes of a trace's file. An address up to 255 takes one of them, a larger one two; one past 65,535 is refused
-/// with 4 and not cut. A falling trace has four bytes more, which say so.
+/// with 4 and not cut. A falling trace has four bytes more, which say so, and a step above 1 has seven.
 pub fn write(trace: &Trace) -> Result<Vec<u8>, u8> {
     let mut file = vec![0; WRITE_ROOM];
     let mut count = 0;

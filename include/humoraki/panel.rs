@@ -42,8 +42,8 @@ impl Panel {
         lent::add(panel, address, time, low, high)
     }
 
-    /// The ranges of one head as a trace. A panel knows no level and no direction, so both are handed in.
-    pub fn trace(&self, address: u32, level: i32, direction: Direction) -> Result<Trace, u8> {
+    /// The ranges of one head as a trace. A panel knows no level, no direction and no step, so these are handed in.
+    pub fn trace(&self, address: u32, level: i32, direction: Direction, step: u32) -> Result<Trace, u8> {
         let ranges = Ranges { times: &self.times, lows: &self.lows, highs: &self.highs };
         let panel = lent::Panel { entries: &self.entries, addresses: &self.addresses, ranges };
         let mut times = vec![0; PANEL_ROOM];
@@ -55,6 +55,6 @@ impl Panel {
         times.truncate(count);
         lows.truncate(count);
         highs.truncate(count);
-        Ok(Trace { address, level, direction, times, lows, highs })
+        Ok(Trace { address, level, direction, step, times, lows, highs })
     }
 }

@@ -14,6 +14,7 @@ fn example() -> Trace {
         address: 7,
         level: 20,
         direction: Direction::Rising,
+        step: 1,
         times: vec![10, 20, 30, 40, 50],
         lows: vec![0, 4, 10, 9, 9],
         highs: vec![4, 8, 14, 11, 12],
@@ -32,7 +33,12 @@ fn beam() -> Trace {
 
 /// The level of both, with this number for the direction.
 fn service(direction: u32) -> Service {
-    Service { level: 20, direction }
+    Service { level: 20, direction, step: 1 }
+}
+
+/// The same on a rising trace, with this number for the step.
+fn stepped(step: u32) -> Service {
+    Service { step, ..service(RISING) }
 }
 
 fn line(p: i64, q: i64, d: i64) -> Line {
@@ -56,10 +62,35 @@ fn a_falling_trace_has_a_field_more() {
     assert_eq!(rising, [&file[..11], &file[15..]].concat());
 }
 
-/// What is told of the first fields of the example with these bytes behind them.
+#[test]
+fn a_step_has_a_field_more() {
+    for (trace, place) in [(example(), 11), (beam(), 15)] {
+        let file = write(&trace).unwrap();
+        let stepped = Trace { step: 28_800, ..trace };
+        let field = [5, 0, 4, 0, 0, 0x70, 0x80];
+        assert_eq!(write(&stepped), Ok([&file[..place], &field, &file[place..]].concat()));
+        assert_eq!(read(&write(&stepped).unwrap()), Ok(stepped));
+    }
+}
+
+/// The trace that the first fields of the example and these bytes behind them are.
+fn read_behind(bytes: &[u8]) -> Result<Trace, u8> {
+    read(&[&[1, 0, 1, 7, 2, 0, 4, 0, 0, 0, 20], bytes].concat())
+}
+
+/// Its direction.
 fn told_behind(bytes: &[u8]) -> Result<Direction, u8> {
-    let file = [&[1, 0, 1, 7, 2, 0, 4, 0, 0, 0, 20], bytes].concat();
-    read(&file).map(|trace| trace.direction)
+    read_behind(bytes).map(|trace| trace.direction)
+}
+
+/// Its step.
+fn step_behind(bytes: &[u8]) -> Result<u32, u8> {
+    read_behind(bytes).map(|trace| trace.step)
+}
+
+/// The field of a step.
+fn step_field(step: u32) -> Vec<u8> {
+    [&[5, 0, 4], &step.to_be_bytes()[..]].concat()
 }
 
 #[test]
@@ -87,20 +118,61 @@ fn a_direction_stands_directly_after_the_level() {
     assert_eq!(read(&[1, 0, 1, 7, 4, 0, 1, 1, 2, 0, 4, 0, 0, 0, 20]), Err(2));
 }
 
-#[test]
-fn a_direction_is_refused_and_not_cut() {
+/// That each call with a level refuses this with 4, and leaves what it is lent.
+fn every_call_refuses(service: Service) {
     let (trace, mut file, mut count) = (example(), vec![77; WRITE_ROOM], 77);
     let (mut table, mut numbers) = (Table::holding(77), (77, [77; 6], [77; 2]));
     let (mut corners, mut trend) = (some_corners(), TOLD);
-    for direction in [2, 256, 65_537, u32::MAX] {
-        let service = service(direction);
-        assert_eq!(lent::write(7, service, trace.ranges(), &mut file, &mut count), Err(4));
-        assert_eq!(lent::segment(service, trace.ranges(), table.columns(), &mut count), Err(4));
-        assert_eq!(lent::preview(service, trace.ranges(), 60, 13, 16, effect_of(&mut numbers)), Err(4));
-        assert_eq!(lent::latest(service, trace.ranges(), lines_in(&mut corners), trend_of(&mut trend)), Err(4));
-    }
+    assert_eq!(lent::write(7, service, trace.ranges(), &mut file, &mut count), Err(4));
+    assert_eq!(lent::segment(service, trace.ranges(), table.columns(), &mut count), Err(4));
+    assert_eq!(lent::preview(service, trace.ranges(), 60, 13, 16, effect_of(&mut numbers)), Err(4));
+    assert_eq!(lent::latest(service, trace.ranges(), lines_in(&mut corners), trend_of(&mut trend)), Err(4));
     assert_eq!((file, count, table, numbers), (vec![77; WRITE_ROOM], 77, Table::holding(77), (77, [77; 6], [77; 2])));
     assert_eq!((corners, trend), (some_corners(), TOLD));
+}
+
+#[test]
+fn a_direction_is_refused_and_not_cut() {
+    for direction in [2, 256, 65_537, u32::MAX] {
+        every_call_refuses(service(direction));
+    }
+}
+
+#[test]
+fn a_step_has_one_form() {
+    assert_eq!(step_behind(&[]), Ok(1));
+    for step in [2, 60, 28_800, 65_536, 86_400] {
+        assert_eq!(step_behind(&step_field(step)), Ok(step));
+    }
+    for step in [0, 1, 86_401, 1 << 24, 1 << 31, u32::MAX] {
+        assert_eq!(step_behind(&step_field(step)), Err(4));
+    }
+    for length in [0, 1, 2, 3, 5, 255] {
+        assert_eq!(step_behind(&[5, 0, length, 0, 0, 0, 60, 0]), Err(3));
+    }
+    assert_eq!(step_behind(&[5, 1, 4, 0, 0, 0, 60]), Err(3));
+    for end in 1..7 {
+        assert_eq!(step_behind(&step_field(60)[..end]), Err(1));
+    }
+}
+
+#[test]
+fn a_step_stands_before_the_ranges() {
+    let (step, falling) = (&step_field(60)[..], &[4, 0, 1, 1][..]);
+    let range = &[3, 0, 12, 0, 0, 0, 10, 0, 0, 0, 0, 0, 0, 0, 4][..];
+    assert_eq!(step_behind(&[step, range].concat()), Ok(60));
+    assert_eq!(step_behind(&[falling, step, range].concat()), Ok(60));
+    for wrong in [[step, falling], [step, step], [range, step]] {
+        assert_eq!(step_behind(&wrong.concat()), Err(2));
+    }
+    assert_eq!(read(&[&[1, 0, 1, 7], step, &[2, 0, 4, 0, 0, 0, 20]].concat()), Err(2));
+}
+
+#[test]
+fn a_step_is_refused_and_not_cut() {
+    for step in [0, 86_401, (1 << 17) + 60, u32::MAX] {
+        every_call_refuses(stepped(step));
+    }
 }
 
 /// The address field of the file that Write makes.
@@ -162,12 +234,12 @@ fn the_length_of_an_address_is_tried_before_its_body() {
 #[test]
 fn the_largest_file_fills_its_room() {
     let times: Vec<u32> = (0..4096).collect();
-    let trace = Trace { address: 65_535, times, lows: vec![0; 4096], highs: vec![0; 4096], ..beam() };
+    let trace = Trace { address: 65_535, step: 2, times, lows: vec![0; 4096], highs: vec![0; 4096], ..beam() };
     assert_eq!(write(&trace).map(|file| file.len()), Ok(WRITE_ROOM));
-    for direction in [RISING, FALLING, 2] {
+    for service in [service(RISING), service(FALLING), service(2), stepped(86_400), stepped(0)] {
         let mut file = vec![77; WRITE_ROOM - 1];
         let mut count = 77;
-        assert_eq!(lent::write(7, service(direction), example().ranges(), &mut file, &mut count), Err(8));
+        assert_eq!(lent::write(7, service, example().ranges(), &mut file, &mut count), Err(8));
         assert_eq!((file, count), (vec![77; WRITE_ROOM - 1], 77));
     }
 }
@@ -194,6 +266,53 @@ fn a_falling_trace_is_the_image_of_a_rising_one() {
     assert_eq!(last, Segment { first_time: 40, last_time: 50, ranges: 2, outlook });
     let rising = segment(&Trace { direction: Direction::Rising, ..beam() }).unwrap();
     assert!(matches!(rising[0].outlook, Outlook::Lines { some: Some(30), all: Some(30), .. }));
+}
+
+/// The two times of each segment of a trace.
+fn times_of(trace: &Trace) -> Vec<(Option<u32>, Option<u32>)> {
+    let told = |segment: &Segment| match segment.outlook {
+        Outlook::Lines { some, all, .. } => (some, all),
+        Outlook::Open => panic!("an open segment"),
+    };
+    segment(trace).unwrap().iter().map(told).collect()
+}
+
+#[test]
+fn times_are_multiples_of_the_step() {
+    for trace in [example(), beam()] {
+        let steps = [(1, [39, 64, 77]), (2, [40, 64, 78]), (25, [50, 75, 100]), (86_400, [86_400, 86_400, 86_400])];
+        for (step, [some, all, last]) in steps {
+            let expected = [(Some(some), Some(all)), (Some(last), None)];
+            assert_eq!(times_of(&Trace { step, ..trace.clone() }), expected);
+        }
+    }
+}
+
+#[test]
+fn a_signal_may_fall_back_before_the_shift() {
+    let (times, values) = (vec![0, 10], vec![10, 9]);
+    let trace = Trace { level: 9, times, lows: values.clone(), highs: values, ..example() };
+    for (step, time) in [(1, Some(10)), (10, Some(10)), (11, None), (86_400, None)] {
+        assert_eq!(times_of(&Trace { step, ..trace.clone() }), [(time, time)]);
+    }
+}
+
+#[test]
+fn the_last_time_need_not_be_a_multiple() {
+    let (times, values) = (vec![0, u32::MAX], vec![9, 9]);
+    let trace = Trace { level: 9, times, lows: values.clone(), highs: values, ..example() };
+    for (step, time) in [(1, Some(u32::MAX)), (2, None), (3, Some(u32::MAX)), (7, None)] {
+        assert_eq!(times_of(&Trace { step, ..trace.clone() }), [(time, time)]);
+    }
+}
+
+#[test]
+fn a_preview_and_a_latest_trend_have_a_step() {
+    let trace = Trace { step: 60, ..example() };
+    let joined = Outlook::Lines { slow: line(1, 70, 10), fast: line(3, -30, 10), some: Some(120), all: Some(180) };
+    assert_eq!(preview(&trace, 60, 13, 16), Ok(Effect::Joins(joined)));
+    let outlook = Outlook::Lines { slow: line(-1, 95, 5), fast: line(1, 70, 10), some: Some(180), all: None };
+    assert_eq!(latest(&trace).map(|trend| (trend.ranges, trend.outlook)), Ok((3, outlook)));
 }
 
 #[test]
@@ -408,7 +527,7 @@ macro_rules! over_columns {
 
         fn segment_without(missing: &str, columns: Columns, count: &mut usize) -> u8 {
             let Columns { $($column),* } = columns;
-            call_without!(missing, humoraki_segment(20, RISING; u32, i32, i32; $($column),*; count))
+            call_without!(missing, humoraki_segment(20, RISING, 1; u32, i32, i32; $($column),*; count))
         }
     };
 }
@@ -419,12 +538,13 @@ segment_columns!(over_columns);
 fn read_takes_null_slices() {
     for (missing, number) in [("times", 8), ("lows", 8), ("highs", 8), ("nothing", 1)] {
         let (mut times, mut lows, mut highs) = ([77; READ_ROOM], [77; READ_ROOM], [77; READ_ROOM]);
-        let (mut address, mut level, mut direction, mut ranges) = (77, 77, 77, 77);
-        let set = (&mut address, &mut level, &mut direction, &mut ranges);
-        let refusal = call_without!(missing, humoraki_read(; u8; times, lows, highs; set.0, set.1, set.2, set.3));
+        let (mut address, mut level, mut direction, mut step, mut ranges) = (77, 77, 77, 77, 77);
+        let set = (&mut address, &mut level, &mut direction, &mut step, &mut ranges);
+        let refusal =
+            call_without!(missing, humoraki_read(; u8; times, lows, highs; set.0, set.1, set.2, set.3, set.4));
         assert_eq!(refusal, number);
         assert_eq!((times, lows, highs), ([77; READ_ROOM], [77; READ_ROOM], [77; READ_ROOM]));
-        assert_eq!((address, level, direction, ranges), (77, 77, 77, 77));
+        assert_eq!((address, level, direction, step, ranges), (77, 77, 77, 77, 77));
     }
 }
 
@@ -432,12 +552,12 @@ fn read_takes_null_slices() {
 fn write_takes_null_slices() {
     let mut file = [77; WRITE_ROOM];
     let mut count = 77;
-    assert_eq!(call_without!("file", humoraki_write(7, 20, RISING; u32, i32, i32; file; &mut count)), 8);
+    assert_eq!(call_without!("file", humoraki_write(7, 20, RISING, 1; u32, i32, i32; file; &mut count)), 8);
     assert_eq!((file, count), ([77; WRITE_ROOM], 77));
-    assert_eq!(call_without!("nothing", humoraki_write(7, 20, RISING; u32, i32, i32; file; &mut count)), 0);
+    assert_eq!(call_without!("nothing", humoraki_write(7, 20, RISING, 1; u32, i32, i32; file; &mut count)), 0);
     assert_eq!(file[..count], [1, 0, 1, 7, 2, 0, 4, 0, 0, 0, 20]);
-    assert_eq!(call_without!("nothing", humoraki_write(7, 20, FALLING; u32, i32, i32; file; &mut count)), 0);
-    assert_eq!(file[..count], [1, 0, 1, 7, 2, 0, 4, 0, 0, 0, 20, 4, 0, 1, 1]);
+    assert_eq!(call_without!("nothing", humoraki_write(7, 20, FALLING, 60; u32, i32, i32; file; &mut count)), 0);
+    assert_eq!(file[..count], [1, 0, 1, 7, 2, 0, 4, 0, 0, 0, 20, 4, 0, 1, 1, 5, 0, 4, 0, 0, 0, 60]);
 }
 
 #[test]
@@ -473,7 +593,7 @@ fn effect_of((kind, lines, times): &mut (u32, [i64; 6], [u64; 2])) -> EffectMut<
 fn preview_without(low: i32, numbers: &mut (u32, [i64; 6], [u64; 2])) -> u8 {
     let EffectMut { kind, slow_p, slow_q, slow_d, fast_p, fast_q, fast_d, some, all } = effect_of(numbers);
     call_without!("nothing", humoraki_preview(
-        20, RISING; u32, i32, i32; ; 60, low, 16, kind, slow_p, slow_q, slow_d, fast_p, fast_q, fast_d, some, all
+        20, RISING, 1; u32, i32, i32; ; 60, low, 16, kind, slow_p, slow_q, slow_d, fast_p, fast_q, fast_d, some, all
     ))
 }
 
@@ -512,7 +632,7 @@ fn lines_in([ps, qs, ds]: &mut [Vec<i64>; 3]) -> Lines<'_> {
 fn latest_without(missing: &str, [ps, qs, ds]: &mut [Vec<i64>; 3], told: &mut Told) -> u8 {
     let TrendMut { ranges, slow_p, slow_q, slow_d, fast_p, fast_q, fast_d, some, all, corners } = trend_of(told);
     call_without!(missing, humoraki_latest(
-        20, RISING; u32, i32, i32; ps, qs, ds;
+        20, RISING, 1; u32, i32, i32; ps, qs, ds;
         ranges, slow_p, slow_q, slow_d, fast_p, fast_q, fast_d, some, all, corners
     ))
 }

@@ -40,7 +40,8 @@ pub fn widened((least, greatest): (f64, f64), added: f64) -> (f64, f64) {
 
 /// Round numbers in a span, not many more than so many: the multiples of a step that is 1, 2 or 5
 /// times a power of ten.
-pub fn ticks((least, greatest): (f64, f64), about: f64) -> Vec<f64> {
+pub fn ticks(span: (f64, f64), about: f64) -> Vec<f64> {
+    let (least, greatest) = span;
     let rough = (greatest - least) / about;
     // Times and values are whole numbers, so that a step below 1 would mark none.
     let mut power = 1.0;
@@ -49,7 +50,11 @@ pub fn ticks((least, greatest): (f64, f64), about: f64) -> Vec<f64> {
     }
     let steps = [power, 2.0 * power, 5.0 * power];
     let step = steps.into_iter().find(|step| *step >= rough);
-    let step = step.unwrap_or(10.0 * power);
+    multiples(span, step.unwrap_or(10.0 * power))
+}
+
+/// The multiples of a step in a span.
+pub fn multiples((least, greatest): (f64, f64), step: f64) -> Vec<f64> {
     let (first, last) = ((least / step).ceil() as i64, (greatest / step).floor() as i64);
     (first..=last).map(|count| count as f64 * step).collect()
 }

@@ -2,8 +2,8 @@
 //! level, and for the last segments how the fitting lines go on until they reach the level; the
 //! latest trend in the same manner, if it is asked for.
 
-use crate::axes::{Axes, Frame, ticks, widened};
-use crate::lines::{Lines, Range};
+use crate::axes::{Axes, Frame, multiples, ticks, widened};
+use crate::lines::{Lines, NO_STEP, Range};
 use crate::report_text::{Kind, Line, Outlook, Run};
 use crate::svg::{Pen, Point, Shapes, Side};
 
@@ -38,6 +38,10 @@ const DOTTED: &str = "2 3";
 const NARROWEST: f64 = 0.6;
 const WIDEST: f64 = 2.4;
 const CAP: f64 = 2.0;
+
+/// The multiples of a step have marks on the time axis, so long, if there are at most so many in the view.
+const MARK: f64 = 6.0;
+const MOST_MARKS: f64 = 100.0;
 
 /// A letter is about this wide, and a text this far from what it names.
 const LETTER: f64 = 6.9;
@@ -74,6 +78,7 @@ pub fn picture(trace: &Lines, segments: &[Run], latest: Option<&Run>) -> String 
     latest.into_iter().for_each(|run| drawing.strip(run));
     drawing.drops(&shown);
     drawing.time_axis();
+    drawing.shifts(trace.step);
     drawing.signal_axis();
     drawing.fans(&shown);
     drawing.level_line(trace.level);
@@ -82,10 +87,15 @@ pub fn picture(trace: &Lines, segments: &[Run], latest: Option<&Run>) -> String 
     drawing.rows(&shown);
     let below = FIRST_ROW + ROW * shown.len() as f64;
     drawing.legend(below + 0.4 * LEGEND);
-    let falling = if trace.falling { ", falling" } else { "" };
-    let title = format!("detector {}, service level {}{falling}", trace.address, trace.level);
+    let title = title_of(trace);
     drawing.shapes.heading((MARGIN, 40.0), INK, &title);
     drawing.shapes.picture(WIDTH, below + LEGEND, &title)
+}
+
+fn title_of(trace: &Lines) -> String {
+    let falling = if trace.falling { ", falling" } else { "" };
+    let step = if trace.step == NO_STEP { String::new() } else { format!(", step {}", trace.step) };
+    format!("detector {}, service level {}{falling}{step}", trace.address, trace.level)
 }
 
 /// Those of the last segments, and of the latest trend; what is open has none.
@@ -145,6 +155,11 @@ fn colour(run: &Run) -> &'static str {
 
 fn value(line: Line, time: f64) -> f64 {
     (line.p * time + line.q) / line.d
+}
+
+/// When a line that is not level has a value.
+fn meets(line: Line, value: f64) -> f64 {
+    (line.d * value - line.q) / line.p
 }
 
 fn told(name: &str, time: Option<u32>) -> String {
@@ -219,6 +234,21 @@ impl Drawing {
         self.shapes.text((FRAME.left - GAP, y), Side::Left, INK, "time");
     }
 
+    /// A mark on the time axis for each multiple of a step; of a trace without a step every second is one.
+    fn shifts(&mut self, step: u32) {
+        if step == NO_STEP {
+            return;
+        }
+        let (least, greatest) = self.axes.times;
+        let (least, step) = (least.max(0.0), f64::from(step));
+        if (greatest - least) / step > MOST_MARKS {
+            return;
+        }
+        for x in multiples((least, greatest), step).into_iter().map(|time| self.axes.x(time)) {
+            self.shapes.stroke((x, FRAME.bottom), (x, FRAME.bottom + MARK), pen(INK, 1.3, WHOLE));
+        }
+    }
+
     fn signal_axis(&mut self) {
         let x = FRAME.left - GAP;
         for value in ticks(self.axes.values, 6.0) {
@@ -230,37 +260,48 @@ impl Drawing {
         self.shapes.text((x, FRAME.top - 14.0), Side::Left, INK, "signal");
     }
 
-    /// Where the fitting lines go on after a run, as long as they have not reached the level.
+    /// Where the fitting lines go on after a run, as long as they have not reached the level, or where they fall back
+    /// behind it.
     fn fans(&mut self, shown: &[Shown]) {
         for Shown { run, outlook, .. } in shown {
             let Outlook { slow, fast, .. } = **outlook;
             let last = f64::from(run.times.1);
             let (slow_end, fast_end) = (self.leaves(slow, last), self.leaves(fast, last));
-            let mut times = [last, slow_end, fast_end, self.axes.times.1];
+            let mut times = vec![last, slow_end, fast_end, self.axes.times.1];
+            times.extend([slow, fast].into_iter().filter_map(|line| self.falls_back(line, last)));
             times.sort_by(f64::total_cmp);
-            let edge = |line| times.map(|time| self.at(time, self.shown_value(line, time)));
-            let mut corners = edge(slow).to_vec();
-            corners.extend(edge(fast).into_iter().rev());
+            let edge = |line, time: &f64| self.at(*time, self.shown_value(line, *time));
+            let mut corners: Vec<Point> = times.iter().map(|time| edge(slow, time)).collect();
+            corners.extend(times.iter().rev().map(|time| edge(fast, time)));
             self.shapes.area(&corners, colour(run), 0.16);
             self.line(slow, (last, slow_end), pen(colour(run), 1.3, DASHED));
             self.line(fast, (last, fast_end), pen(colour(run), 1.3, WHOLE));
         }
     }
 
-    /// When a line, from a time on, reaches the level, the edge of the view away from it or its end.
+    /// When a line, from a time on, reaches the level, the edge of the view away from it or its end. One that has
+    /// reached the level and falls back goes on to that edge too.
     fn leaves(&self, line: Line, from: f64) -> f64 {
-        let meets = |value: f64| (line.d * value - line.q) / line.p;
         let end = self.axes.times.1;
-        let comes_near = if self.falling { line.p < 0.0 } else { line.p > 0.0 };
-        if self.is_reached(value(line, from)) {
+        if self.recedes(line) {
+            meets(line, self.away_from_level()).min(end)
+        } else if self.is_reached(value(line, from)) {
             from
         } else if line.p == 0.0 {
             end
-        } else if comes_near {
-            meets(self.level).min(end)
         } else {
-            meets(self.away_from_level()).min(end)
+            meets(line, self.level).min(end)
         }
+    }
+
+    /// When a line that has reached the level at a time falls back behind it, if it does so in the view.
+    fn falls_back(&self, line: Line, from: f64) -> Option<f64> {
+        let back = self.recedes(line) && self.is_reached(value(line, from));
+        Some(meets(line, self.level)).filter(|time| back && *time < self.axes.times.1)
+    }
+
+    fn recedes(&self, line: Line) -> bool {
+        if self.falling { line.p > 0.0 } else { line.p < 0.0 }
     }
 
     fn is_reached(&self, value: f64) -> bool {

@@ -1,6 +1,6 @@
 //! Reads a trace from text: `detector ADDRESS level LEVEL`, then a line `falling` if dust lowers the
-//! signal, then a line `time low high` for each range. Blank lines do not count, nor does what
-//! follows a `#`.
+//! signal, then a line `step SECONDS` if service can start only at the multiples of that, then a line
+//! `time low high` for each range. Blank lines do not count, nor does what follows a `#`.
 //!
 //! The library turns down the same input, but by a number alone. What is tried here tells a person
 //! which line is wrong, and how.
@@ -18,6 +18,7 @@ pub struct Lines {
     pub address: u32,
     pub level: i32,
     pub falling: bool,
+    pub step: u32,
     pub ranges: Vec<Range>,
 }
 
@@ -26,6 +27,12 @@ const FIRST_LINE: &str = "detector ADDRESS level LEVEL";
 
 /// The line after the first of a trace whose signal falls.
 pub const FALLING: &str = "falling";
+
+/// The word before the step, in the line after these of a trace that has one.
+pub const STEP: &str = "step";
+
+/// The step of a trace without that line: every second will do.
+pub const NO_STEP: u32 = 1;
 
 /// A number by its name, and where it has to lie, ends included.
 struct Span {
@@ -39,6 +46,7 @@ const fn value(name: &'static str) -> Span {
 }
 
 const ADDRESS: Span = Span { name: "address", least: 1, greatest: 65_535 };
+const STEP_SPAN: Span = Span { name: STEP, least: 2, greatest: 86_400 };
 const TIME: Span = Span { name: "time", least: 0, greatest: 4_294_967_295 };
 const LEVEL: Span = value("level");
 const LOW: Span = value("low");
@@ -54,12 +62,16 @@ pub fn parse(text: &str) -> Result<Lines, String> {
     };
     let (address, level) = parse_first(&first).map_err(|wrong| at_line(number, wrong))?;
     let falling = lines.next_if(|(_, words)| is_falling(words)).is_some();
+    let step = match lines.next_if(|(_, words)| is_step(words)) {
+        Some((number, words)) => parse_step(&words).map_err(|wrong| at_line(number, wrong))?,
+        None => NO_STEP,
+    };
     let mut ranges = Vec::new();
     for (number, words) in lines {
         let range = parse_next(&words, &ranges).map_err(|wrong| at_line(number, wrong))?;
         ranges.push(range);
     }
-    Ok(Lines { address, level, falling, ranges })
+    Ok(Lines { address, level, falling, step, ranges })
 }
 
 fn at_line(number: u64, wrong: String) -> String {
@@ -76,8 +88,16 @@ fn parse_first(words: &[&str]) -> Result<(u32, i32), String> {
         let found = words.join(" ");
         return Err(format!("found '{found}'; expected first: {FIRST_LINE}"));
     };
-    // The spans of address and level lie within their types, as do those of a range below.
+    // The spans of address and level lie within their types, as do those of a step and a range below.
     Ok((ADDRESS.parse(address)? as u32, LEVEL.parse(level)? as i32))
+}
+
+fn parse_step(words: &[&str]) -> Result<u32, String> {
+    let [_, seconds] = words else {
+        let found = words.join(" ");
+        return Err(format!("found '{found}'; expected: {STEP} SECONDS"));
+    };
+    Ok(STEP_SPAN.parse(seconds)? as u32)
 }
 
 /// The range that a line's words give, after the ranges before it.
@@ -102,13 +122,20 @@ fn is_falling(words: &[&str]) -> bool {
     words == [FALLING]
 }
 
+fn is_step(words: &[&str]) -> bool {
+    words.first() == Some(&STEP)
+}
+
 fn parse_range(words: &[&str]) -> Result<Range, String> {
+    let found = || words.join(" ");
     if is_falling(words) {
         return Err(format!("found '{FALLING}'; expected it once, directly after the first line"));
     }
+    if is_step(words) {
+        return Err(format!("found '{}'; expected it once, before the first range", found()));
+    }
     let [time, low, high] = words else {
-        let found = words.join(" ");
-        return Err(format!("found '{found}'; expected three numbers: time low high"));
+        return Err(format!("found '{}'; expected three numbers: time low high", found()));
     };
     Ok(Range { time: TIME.parse(time)? as u32, low: LOW.parse(low)? as i32, high: HIGH.parse(high)? as i32 })
 }

@@ -14,13 +14,14 @@ mod lines;
 mod trend_text;
 
 use humoraki::{Direction, Trace};
-use lines::{FALLING, Lines};
+use lines::{FALLING, Lines, NO_STEP, STEP};
 
 const USAGE: &str = "usage: trace-tool make < LINES > FILE
        trace-tool show < FILE > LINES
        trace-tool latest < FILE > LATEST
 LINES: first 'detector ADDRESS level LEVEL', then 'falling' if dust lowers the signal, then
-       'time low high' for each range; blank lines do not count, nor does what follows a '#'
+       'step SECONDS' if service can start only at the multiples of that, then 'time low high'
+       for each range; blank lines do not count, nor does what follows a '#'
 LATEST: the longest run at the end that some line fits, in the words of a report";
 
 /// The report program reads this much of a file; later bytes cannot matter.
@@ -90,6 +91,7 @@ fn trace_of(lines: &Lines) -> Trace {
         address: lines.address,
         level: lines.level,
         direction: if lines.falling { Direction::Falling } else { Direction::Rising },
+        step: lines.step,
         times: lines.ranges.iter().map(|range| range.time).collect(),
         lows: lines.ranges.iter().map(|range| range.low).collect(),
         highs: lines.ranges.iter().map(|range| range.high).collect(),
@@ -101,6 +103,9 @@ fn text_of(trace: &Trace) -> String {
     let mut text = format!("detector {} level {}\n", trace.address, trace.level);
     if trace.direction == Direction::Falling {
         text += &format!("{FALLING}\n");
+    }
+    if trace.step != NO_STEP {
+        text += &format!("{STEP} {}\n", trace.step);
     }
     for ((time, low), high) in trace.times.iter().zip(&trace.lows).zip(&trace.highs) {
         text += &format!("{time} {low} {high}\n");

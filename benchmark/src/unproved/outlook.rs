@@ -4,7 +4,8 @@ use super::line::Line;
 use humoraki::FALLING;
 use humoraki::lent::Service;
 
-/// Open: one range. Else the slow and the fast line, and the times at which some and all lines of the fit reach the level.
+/// Open: one range. Else the slow and the fast line, and the multiples of the step at which some and all lines of the fit
+/// have reached the level.
 #[derive(Clone, Copy)]
 pub enum Outlook {
     Open,
@@ -16,16 +17,19 @@ fn ceil_div(n: i64, d: i64) -> i64 {
     n / d + i64::from(0 < n % d)
 }
 
-/// The first time from `from` on at which the line is at or above the level.
-fn reach_time(line: Line, level: i32, from: u32) -> Option<u32> {
+/// The first multiple of the step, from `from` on, at which the line is at or above the level. Where it is so at
+/// the first of these, that is it; a line that is not and does not rise never comes there.
+fn reach_time(line: Line, level: i32, step: u32, from: u32) -> Option<u32> {
+    let step = i64::from(step);
     let scaled = line.d * i64::from(level);
-    if scaled <= line.p * i64::from(from) + line.q {
-        return Some(from);
+    let first = ceil_div(i64::from(from), step) * step;
+    if scaled <= line.p * first + line.q {
+        return u32::try_from(first).ok();
     }
     if line.p <= 0 {
         return None;
     }
-    u32::try_from(ceil_div(scaled - line.q, line.p)).ok()
+    u32::try_from(ceil_div(scaled - line.q, line.p * step) * step).ok()
 }
 
 impl Outlook {
@@ -38,7 +42,7 @@ impl Outlook {
         } else {
             (fast, slow, service.level)
         };
-        let [some, all] = [first, last].map(|line| reach_time(line, level, last_time));
+        let [some, all] = [first, last].map(|line| reach_time(line, level, service.step, last_time));
         Outlook::Lines { slow, fast, some, all }
     }
 }

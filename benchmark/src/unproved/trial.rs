@@ -1,7 +1,7 @@
 //! Which number of the refusals turns the lists and slices of a call down.
 
 use humoraki::lent::{Columns, Lines, Ranges, Service};
-use humoraki::{CORNER_ROOM, FALLING, SEGMENT_ROOM};
+use humoraki::{CORNER_ROOM, FALLING, LEAST_STEP, MOST_STEP, SEGMENT_ROOM};
 
 pub const MOST_RANGES: usize = 4096;
 
@@ -12,7 +12,8 @@ pub fn value_outside(value: i32) -> bool {
 }
 
 fn service_outside(service: Service) -> bool {
-    value_outside(service.level) || FALLING < service.direction
+    let bad_step = !(LEAST_STEP..=MOST_STEP).contains(&service.step);
+    value_outside(service.level) || FALLING < service.direction || bad_step
 }
 
 /// One range: the least time of the next, or the number that turns it down.

@@ -104,7 +104,8 @@ pub fn number<T>(answer: &Result<T, u8>) -> u8 {
 
 /// A service as the library takes it.
 fn handed(service: Service) -> lent::Service {
-    lent::Service { level: service.level, direction: service.direction }
+    let Service { level, direction, step } = service;
+    lent::Service { level, direction, step }
 }
 
 /// A line's number as the library has it.

@@ -21,6 +21,7 @@ pub struct ReadCall {
     address: Lent<u32>,
     level: Lent<i32>,
     direction: Lent<u32>,
+    step: Lent<u32>,
     ranges: Lent<usize>,
 }
 
@@ -34,6 +35,7 @@ impl ReadCall {
             address: Lent::new("address", Use::Set),
             level: Lent::new("level", Use::Set),
             direction: Lent::new("direction", Use::Set),
+            step: Lent::new("step", Use::Set),
             ranges: Lent::new("ranges", Use::Set),
         }
     }
@@ -57,8 +59,8 @@ impl ReadCall {
 
     /// All that is lent to Read.
     pub fn lent(&mut self) -> Vec<&mut dyn Watched> {
-        let ReadCall { file, times, lows, highs, address, level, direction, ranges } = self;
-        vec![file, times, lows, highs, address, level, direction, ranges]
+        let ReadCall { file, times, lows, highs, address, level, direction, step, ranges } = self;
+        vec![file, times, lows, highs, address, level, direction, step, ranges]
     }
 
     /// Whether a slice is too short.
@@ -70,6 +72,7 @@ impl ReadCall {
         self.address.lend(1, 1, random);
         self.level.lend(1, 1, random);
         self.direction.lend(1, 1, random);
+        self.step.lend(1, 1, random);
         self.ranges.lend(1, 1, random);
         short
     }
@@ -84,6 +87,7 @@ impl ReadCall {
             address: self.address.entry_mut(),
             level: self.level.entry_mut(),
             direction: self.direction.entry_mut(),
+            step: self.step.entry_mut(),
             ranges: self.ranges.entry_mut(),
         };
         lent::read(self.file.entries(), into, record)
@@ -97,6 +101,7 @@ impl ReadCall {
         self.address.expect(&[trace.address]);
         self.level.expect(&[trace.service.level]);
         self.direction.expect(&[trace.service.direction]);
+        self.step.expect(&[trace.service.step]);
         self.ranges.expect(&[trace.ranges.len()]);
     }
 }

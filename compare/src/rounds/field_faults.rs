@@ -3,13 +3,13 @@
 use crate::damage::{address_widened, outside};
 use crate::desk::Desk;
 use crate::difference::Outcome;
-use crate::file::{bytes, field_start, fields_of_header};
+use crate::file::{DIRECTION_TAG, STEP_TAG, bytes, field_start, field_with, fields_of_header};
 use crate::random::Random;
 use crate::segments::{BY_CLIPPING, BY_TRYING, Fitter};
 use crate::trace::{MOST_RANGES, Range, Trace};
 use crate::traces::addresses::address;
 use crate::traces::long::full;
-use crate::traces::services::{no_direction, small_service};
+use crate::traces::services::{no_direction, no_step, small_service};
 use crate::traces::small::small_trace;
 
 #[derive(Clone, Copy, PartialEq)]
@@ -60,14 +60,14 @@ pub fn compare(desk: &mut Desk) -> Outcome {
     Ok(())
 }
 
-/// A trace's file with the faults in one field: 0 is the address, 1 the level, then a direction if it falls, then the
-/// ranges.
+/// A trace's file with the faults in one field: 0 is the address, 1 the level, then a direction if it falls, then a step
+/// if there is one, then the ranges.
 fn one(desk: &mut Desk, trace: &Trace, (field, faults): (usize, &[Fault]), fitter: Fitter) -> Outcome {
     let random = &mut desk.random;
     let mut trace = trace.clone();
-    let of_header = fields_of_header(&bytes(&trace));
+    let sound = bytes(&trace);
     for fault in faults {
-        spoil_value(&mut trace, (field, of_header), *fault, random);
+        spoil_value(&mut trace, (field, &sound), *fault, random);
     }
     let mut file = bytes(&trace);
     if field == 0 && faults.contains(&Fault::High) {
@@ -82,13 +82,16 @@ fn one(desk: &mut Desk, trace: &Trace, (field, faults): (usize, &[Fault]), fitte
     desk.file(&file, fitter)
 }
 
-/// A low that is wrong stands for an address of 0 and for a wrong level or direction too, a high for an address in two
-/// bytes that is below 256.
-fn spoil_value(trace: &mut Trace, (field, of_header): (usize, usize), fault: Fault, random: &mut Random) {
+/// A low that is wrong stands for an address of 0 and for a wrong level, direction or step too, a high for an address in
+/// two bytes that is below 256. The field is one of the sound file.
+fn spoil_value(trace: &mut Trace, (field, sound): (usize, &[u8]), fault: Fault, random: &mut Random) {
+    let of_header = fields_of_header(sound);
+    let has = |tag| field_with(sound, tag) == Some(field);
     match (field, fault) {
         (0, Fault::Low) => trace.address = 0,
         (1, Fault::Low | Fault::High) => trace.service.level = outside(random),
-        (2, Fault::Low | Fault::High) if of_header == 3 => trace.service.direction = no_direction(random),
+        (_, Fault::Low | Fault::High) if has(DIRECTION_TAG) => trace.service.direction = no_direction(random),
+        (_, Fault::Low | Fault::High) if has(STEP_TAG) => trace.service.step = no_step(random),
         _ if field < of_header => {}
         _ => spoil_range(&mut trace.ranges, field - of_header, fault, random),
     }
@@ -111,7 +114,7 @@ fn spoil_bytes(file: &mut Vec<u8>, start: usize, end: usize, fault: Fault, rando
     let has = |place: usize| file.len() > place;
     match fault {
         Fault::EndsInHeader => file.truncate(start + random.below(3)),
-        Fault::Tag if has(start) => file[start] = random.pick(&[0, 3, 4, 5, 255, file[start] + 1]),
+        Fault::Tag if has(start) => file[start] = random.pick(&[0, 3, 4, 5, 6, 255, file[start] + 1]),
         Fault::Length if has(2) && start == 0 && random.one_in(2) => {
             file[1..3].copy_from_slice(&random.pick(&ADDRESS_LENGTHS).to_be_bytes());
         }

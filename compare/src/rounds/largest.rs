@@ -7,7 +7,10 @@ use crate::difference::Outcome;
 use crate::file;
 use crate::room::Room;
 use crate::segments::BY_CLIPPING;
-use crate::trace::{FALLING, LARGEST_ADDRESS, LARGEST_VALUE, LEAST_VALUE, Lists, MOST_RANGES, Range, Service, Trace};
+use crate::trace::{
+    EVERY_SECOND, LARGEST_ADDRESS, LARGEST_STEP, LARGEST_VALUE, LEAST_VALUE, Lists, MOST_RANGES, Range, Service,
+    Trace,
+};
 use crate::traces::long::full;
 use crate::trends;
 use humoraki::WRITE_ROOM;
@@ -15,16 +18,18 @@ use humoraki::WRITE_ROOM;
 /// What the report program reads of standard input at most.
 const INPUT: usize = 65_536;
 
-/// Each length of a header: the largest address of one byte and of two, on a rising trace and on a falling one.
+/// Each length of a header: the largest address of one byte and of two, on a rising trace and on a falling one, without
+/// a step and with the largest. The last is the longest.
 type Head = (u32, Service);
 
-fn heads() -> [Head; 4] {
-    let [rising, falling] = [Service::rising(0), Service::falling(0)];
-    [(255, rising), (LARGEST_ADDRESS, rising), (255, falling), (LARGEST_ADDRESS, falling)]
+fn heads() -> Vec<Head> {
+    let services = [Service::rising(0), Service::falling(0)];
+    let with_steps = [EVERY_SECOND, LARGEST_STEP].into_iter().flat_map(|step| services.map(|of| of.every(step)));
+    with_steps.flat_map(|service| [(255, service), (LARGEST_ADDRESS, service)]).collect()
 }
 
 /// The scope's least length for Write, and so the length of the largest file.
-const LARGEST: usize = 61_456;
+const LARGEST: usize = 61_463;
 const _: () = assert!(WRITE_ROOM == LARGEST);
 
 /// How many other ends are tried for the largest file.
@@ -64,16 +69,15 @@ fn as_lists(desk: &mut Desk, count: usize) -> Outcome {
     previews(desk, &lists)
 }
 
-/// A good range behind all others, and a level, a direction and a range that are wrong.
+/// A good range behind all others, and a level, a direction, a step and a range that are wrong.
 fn previews(desk: &mut Desk, lists: &Lists) -> Outcome {
     let time = lists.times.len() as u32;
     let good = Range { time, low: LEAST_VALUE, high: LARGEST_VALUE };
     let wrong = Range { low: 1, high: 0, ..good };
     let [rising, falling] = [Service::rising(0), Service::falling(0)];
-    let outside = [Service::rising(i32::MAX), Service { direction: 2, ..rising }];
-    for (service, range) in
-        [(rising, good), (falling, good), (outside[0], good), (outside[1], good), (falling, wrong)]
-    {
+    let outside = [Service::rising(i32::MAX), rising.toward(2), rising.every(0)].map(|service| (service, good));
+    let inside = [rising, falling, falling.every(LARGEST_STEP)].map(|service| (service, good));
+    for (service, range) in inside.into_iter().chain(outside).chain([(falling, wrong)]) {
         let expected = answers::preview(service, lists, &range, BY_CLIPPING);
         desk.preview((service, lists, &range), borrowed(&expected))?;
     }
@@ -84,7 +88,7 @@ fn previews(desk: &mut Desk, lists: &Lists) -> Outcome {
 fn too_long((address, service): Head, ranges: usize) -> (Vec<u8>, usize) {
     let file = file::bytes(&Trace { address, service, ranges: full(ranges) });
     let largest = file::field_start(&file, file::fields_of_header(&file) + MOST_RANGES);
-    let is_largest = (address, service.direction) == (LARGEST_ADDRESS, FALLING);
+    let is_largest = Some(&(address, service)) == heads().last();
     assert!(is_largest == (largest == LARGEST) && largest <= LARGEST, "the largest file has another length");
     (file, largest)
 }

@@ -17,6 +17,8 @@ pub fn compare(desk: &mut Desk) -> Outcome {
     let corners = [line(-1, 95, 5), line(1, 70, 10), line(-1, 230, 20)];
     let trend = bounded(3, corners[0], corners[1], (Some(130), None), &corners);
     latest(desk, at_20, &Lists::of(&ranges(&SAMPLE)), Ok(trend))?;
+    let trend = bounded(3, corners[0], corners[1], (Some(180), None), &corners);
+    latest(desk, at_20.every(60), &Lists::of(&ranges(&SAMPLE)), Ok(trend))?;
     let corners = [line(-1, 330, 10), line(1, 570, 20), line(1, 105, 5)];
     let trend = bounded(3, corners[0], corners[2], (Some(130), None), &corners);
     latest(desk, Service::falling(20), &Lists::of(&ranges(&BEAM)), Ok(trend))?;
@@ -29,12 +31,14 @@ pub fn compare(desk: &mut Desk) -> Outcome {
 
 fn refused(desk: &mut Desk) -> Outcome {
     let at_20 = Service::rising(20);
-    let no_direction = Service { level: 20, direction: 2 };
+    let [no_direction, no_step] = [at_20.toward(2), at_20.every(86_401)];
     latest(desk, at_20, &one(1, 0), Err(5))?;
     latest(desk, no_direction, &one(1, 0), Err(4))?;
+    latest(desk, no_step, &one(1, 0), Err(4))?;
     latest(desk, OUTSIDE, &one(1, 0), Err(4))?;
     latest(desk, at_20, &still(4096), Err(6))?;
     latest(desk, no_direction, &still(4097), Err(7))?;
+    latest(desk, no_step, &still(4097), Err(7))?;
     let mut unequal = still(4097);
     unequal.lows.pop();
     latest(desk, at_20, &unequal, Err(10))

@@ -13,7 +13,7 @@ use crate::segments::BY_TRYING;
 use crate::trace::{Lists, MOST_RANGES, Range, Service};
 use crate::traces::addresses;
 use crate::traces::long::full;
-use crate::traces::services::{no_direction, small_service};
+use crate::traces::services::{no_direction, no_step, small_service};
 use crate::traces::small::small_ranges;
 use crate::trends;
 use humoraki::{CORNER_ROOM, SEGMENT_ROOM, WRITE_ROOM};
@@ -39,11 +39,12 @@ enum Fault {
     Address,
     Level,
     Direction,
+    Step,
     Prefix,
 }
 
 /// Faults in ranges come before the lengths are changed, so that there is a range to spoil.
-const FAULTS: [Fault; 11] = [
+const FAULTS: [Fault; 12] = [
     Fault::TooMany,
     Fault::InRange(RangeFault::Low),
     Fault::InRange(RangeFault::High),
@@ -54,6 +55,7 @@ const FAULTS: [Fault; 11] = [
     Fault::Address,
     Fault::Level,
     Fault::Direction,
+    Fault::Step,
     Fault::Prefix,
 ];
 
@@ -116,6 +118,7 @@ fn spoil(handed: &mut Handed, fault: Fault, random: &mut Random) {
         Fault::Address => handed.address = addresses::outside(random),
         Fault::Level => handed.service.level = outside(random),
         Fault::Direction => handed.service.direction = no_direction(random),
+        Fault::Step => handed.service.step = no_step(random),
         Fault::InRange(fault) => spoil_range(lists, place, fault, random),
         Fault::Prefix => {
             let count = lists.times.len();

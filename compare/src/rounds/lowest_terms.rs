@@ -69,7 +69,7 @@ fn intercepts_of(desk: &mut Desk, start: u32, rise: u32) -> Outcome {
 fn line_through(desk: &mut Desk, points: [Range; 2], name: &str) -> Outcome {
     let lists = Lists::of(&points);
     for direction in [RISING, FALLING] {
-        let service = Service { level: 20, direction };
+        let service = Service::rising(20).toward(direction);
         let expected = answers::segment(service, &lists, BY_TRYING);
         desk.segment(service, &lists, borrowed(&expected), &Room::enough())?;
     }

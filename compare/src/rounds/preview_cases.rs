@@ -8,7 +8,7 @@ use crate::difference::Outcome;
 use crate::line::Line;
 use crate::outlook::Outlook;
 use crate::segments::BY_TRYING;
-use crate::trace::{Lists, RISING, Range, Service};
+use crate::trace::{Lists, Range, Service};
 
 type Numbers = (u32, i32, i32);
 
@@ -31,7 +31,8 @@ pub fn compare(desk: &mut Desk) -> Outcome {
     let mut unequal = still(4096);
     unequal.lows.pop();
     preview(desk, (at_20, &unequal), (0, 1, 0), Err(10))?;
-    falling(desk)
+    falling(desk)?;
+    stepped(desk)
 }
 
 /// The cases with a direction.
@@ -40,13 +41,23 @@ fn falling(desk: &mut Desk) -> Outcome {
     let joined = joins(line(-3, 430, 10), line(-1, 330, 10), Some(77), Some(130));
     preview(desk, (Service::falling(20), &beam), (60, 24, 27), Ok(joined))?;
     preview(desk, (Service::falling(20), &beam), (60, 22, 24), Ok(BEGINS))?;
-    let no_direction = Service { level: 20, direction: 2 };
+    let no_direction = Service::rising(20).toward(2);
     preview(desk, (no_direction, &one(1, 0)), (0, 0, 4), Err(4))?;
     preview(desk, (no_direction, &still(4096)), (0, 1, 0), Err(7))
 }
 
+/// The cases with a step.
+fn stepped(desk: &mut Desk) -> Outcome {
+    let (sample, at_20) = (Lists::of(&ranges(&SAMPLE)), Service::rising(20));
+    let joined = joins(line(1, 70, 10), line(3, -30, 10), Some(120), Some(180));
+    preview(desk, (at_20.every(60), &sample), (60, 13, 16), Ok(joined))?;
+    preview(desk, (at_20.every(60), &sample), (60, 16, 18), Ok(BEGINS))?;
+    preview(desk, (at_20.every(0), &one(1, 0)), (0, 0, 4), Err(4))?;
+    preview(desk, (at_20.every(0), &still(4096)), (0, 1, 0), Err(7))
+}
+
 /// The least number that is no level.
-pub const OUTSIDE: Service = Service { level: 268_435_457, direction: RISING };
+pub const OUTSIDE: Service = Service::rising(268_435_457);
 
 const BEGINS: Effect = Effect { begins: true, outlook: Outlook::Open };
 

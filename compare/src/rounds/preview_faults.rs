@@ -11,15 +11,16 @@ use crate::rounds::mirrors;
 use crate::segments::BY_TRYING;
 use crate::trace::{Lists, MOST_RANGES, Range, Service};
 use crate::traces::long::full;
-use crate::traces::services::{no_direction, small_service};
+use crate::traces::services::{no_direction, no_step, small_service};
 
-/// The bits of a set: the faults of some range in the lists, those of the new range, and three more.
+/// The bits of a set: the faults of some range in the lists, those of the new range, and four more.
 const EARLIER: usize = 0;
 const NEW: usize = EARLIER + RANGE_FAULTS.len();
 const LENGTHS_DIFFER: usize = NEW + RANGE_FAULTS.len();
 const LEVEL: usize = LENGTHS_DIFFER + 1;
 const DIRECTION: usize = LEVEL + 1;
-const SETS: usize = 1 << (DIRECTION + 1);
+const STEP: usize = DIRECTION + 1;
+const SETS: usize = 1 << (STEP + 1);
 
 #[derive(Clone, Copy)]
 enum Size {
@@ -109,6 +110,9 @@ fn faulty(size: Size, set: usize, random: &mut Random) -> Handed {
     }
     if has(DIRECTION) {
         service.direction = no_direction(random);
+    }
+    if has(STEP) {
+        service.step = no_step(random);
     }
     Handed { service, lists, range: ranges[new] }
 }

@@ -1,6 +1,7 @@
 //! The worked cases of the scope, number by number: what is expected here is held to the scope before the library
 //! is held to it.
 
+use super::header_fields::{ADDRESSES, FALLING_FIELD, FIRST, LEVEL, STEP_FIELD};
 use crate::answers::{self, borrowed};
 use crate::desk::Desk;
 use crate::difference::{Difference, Outcome};
@@ -29,6 +30,13 @@ segment 1 from 10 to 30 ranges 3 slow 3 10 10 fast 7 -70 10 some 39 all 64
 segment 2 from 40 to 50 ranges 2 slow -1 95 5 fast 3 -30 10 some 77 all none
 ";
 
+/// The sample with a step of 25.
+const STEPPED_REPORT: &str = "\
+detector 7 level 20 ranges 5 segments 2
+segment 1 from 10 to 30 ranges 3 slow 3 10 10 fast 7 -70 10 some 50 all 75
+segment 2 from 40 to 50 ranges 2 slow -1 95 5 fast 3 -30 10 some 100 all none
+";
+
 const AFTER_3: [Numbers; 5] = [[3, 10, 10], [2, 0, 5], [3, -20, 5], [7, -70, 10], [1, -10, 2]];
 const AFTER_5: [Numbers; 4] = [[-1, 95, 5], [1, 70, 10], [3, -30, 10], [0, 9, 1]];
 
@@ -51,7 +59,9 @@ pub fn compare(desk: &mut Desk) -> Outcome {
     report(desk, &[], "refused 1\n")?;
     addresses(desk)?;
     falling(desk)?;
-    directions(desk)
+    stepped(desk)?;
+    directions(desk)?;
+    steps(desk)
 }
 
 /// Falling traces, with *some* and *all* of each segment.
@@ -63,17 +73,42 @@ fn falling(desk: &mut Desk) -> Outcome {
     times(desk, Service::falling(20), &BEAM, &[(Some(39), Some(64)), (Some(77), None)])?;
     times(desk, Service::falling(0), &SAMPLE, &[(None, None), (Some(95), None)])?;
     times(desk, Service::falling(10), &SAMPLE, &[(Some(30), None), (Some(50), None)])?;
-    segments(desk, Service { level: 20, direction: 2 }, &[(0, 1, 0)], Err(4))?;
-    segments(desk, Service { level: 20, direction: 256 }, &[], Err(4))?;
-    segments(desk, Service { level: 20, direction: 2 }, &[(0, 0, 4); 4097], Err(7))
+    segments(desk, Service::rising(20).toward(2), &[(0, 1, 0)], Err(4))?;
+    segments(desk, Service::rising(20).toward(256), &[], Err(4))?;
+    segments(desk, Service::rising(20).toward(2), &[(0, 0, 4); 4097], Err(7))
 }
 
-/// Files of address 7 and level 20 with these bytes behind them.
+/// Traces with a step, with *some* and *all* of each segment.
+fn stepped(desk: &mut Desk) -> Outcome {
+    let (at_20, at_9) = (Service::rising(20), Service::rising(9));
+    let trace = Trace { address: 7, service: at_20.every(25), ranges: ranges(&SAMPLE) };
+    let file = file::bytes(&trace);
+    agree("93".to_string(), file.len().to_string(), &Lists::of(&trace.ranges))?;
+    report(desk, &file, STEPPED_REPORT)?;
+    let day = Some(86_400);
+    times(desk, Service::falling(20).every(86_400), &BEAM, &[(day, day), (day, None)])?;
+    for (service, time) in [(at_9.every(10), Some(10)), (at_9.every(11), None), (at_9.toward(1).every(11), Some(11))]
+    {
+        times(desk, service, &[(0, 10, 10), (10, 9, 9)], &[(time, time)])?;
+    }
+    for (step, time) in [(3, Some(4_294_967_295)), (2, None)] {
+        times(desk, at_9.every(step), &[(0, 9, 9), (4_294_967_295, 9, 9)], &[(time, time)])?;
+    }
+    segments(desk, at_20.every(0), &[(0, 1, 0)], Err(4))?;
+    segments(desk, at_20.every(86_401), &[], Err(4))?;
+    segments(desk, at_20.every(0), &[(0, 0, 4); 4097], Err(7))
+}
+
+/// The field of address 7.
+const ADDRESS: &[u8] = ADDRESSES[0];
+
+/// The report of a file with this, level 20 and no range.
+const NO_RANGES: &str = "detector 7 level 20 ranges 0 segments 0\n";
+
+/// Files of address 7 and level 20 with a direction behind them.
 fn directions(desk: &mut Desk) -> Outcome {
-    let range = [3, 0, 12, 0, 0, 0, 10, 0, 0, 0, 36, 0, 0, 0, 40];
-    let header = [1, 0, 1, 7, 2, 0, 4, 0, 0, 0, 20];
     let fields: [(&[u8], &str); 9] = [
-        (&[4, 0, 1, 1], "detector 7 level 20 ranges 0 segments 0\n"),
+        (&[4, 0, 1, 1], NO_RANGES),
         (&[4, 0, 1, 0], "refused 4\n"),
         (&[4, 0, 1, 2], "refused 4\n"),
         (&[4, 0, 1, 255], "refused 4\n"),
@@ -81,12 +116,36 @@ fn directions(desk: &mut Desk) -> Outcome {
         (&[4, 0, 0], "refused 3\n"),
         (&[4, 0, 2, 0, 1], "refused 3\n"),
         (&[4, 0, 1, 1, 4, 0, 1, 1], "refused 2\n"),
-        (&[&range[..], &[4, 0, 1, 1]].concat(), "refused 2\n"),
+        (&[FIRST, FALLING_FIELD].concat(), "refused 2\n"),
     ];
     for (field, text) in fields {
-        report(desk, &[&header, field].concat(), text)?;
+        report(desk, &[ADDRESS, LEVEL, field].concat(), text)?;
     }
-    report(desk, &[&header[..4], &[4, 0, 1, 1], &header[4..]].concat(), "refused 2\n")
+    report(desk, &[ADDRESS, FALLING_FIELD, LEVEL].concat(), "refused 2\n")
+}
+
+/// The same with a step.
+fn steps(desk: &mut Desk) -> Outcome {
+    let (falling, minute) = (FALLING_FIELD, STEP_FIELD);
+    let fields: [(&[u8], &str); 13] = [
+        (&[5, 0, 4, 0, 0, 0, 2], NO_RANGES),
+        (&[falling, &[5, 0, 4, 0, 1, 81, 128]].concat(), NO_RANGES),
+        (&[5, 0, 4, 0, 0, 0, 0], "refused 4\n"),
+        (&[5, 0, 4, 0, 0, 0, 1], "refused 4\n"),
+        (&[5, 0, 4, 0, 1, 81, 129], "refused 4\n"),
+        (&[5, 0, 4, 1, 0, 0, 2], "refused 4\n"),
+        (&[5, 0, 4, 0, 0, 0], "refused 1\n"),
+        (&[5, 0, 2, 0, 25], "refused 3\n"),
+        (&[5, 0, 5, 0, 0, 0, 0, 25], "refused 3\n"),
+        (&[minute, falling].concat(), "refused 2\n"),
+        (&[minute, minute].concat(), "refused 2\n"),
+        (&[falling, minute, minute].concat(), "refused 2\n"),
+        (&[FIRST, minute].concat(), "refused 2\n"),
+    ];
+    for (field, text) in fields {
+        report(desk, &[ADDRESS, LEVEL, field].concat(), text)?;
+    }
+    report(desk, &[ADDRESS, minute, LEVEL].concat(), "refused 2\n")
 }
 
 /// Files without ranges: the address field, with the level 20 behind it.
@@ -107,7 +166,7 @@ fn addresses(desk: &mut Desk) -> Outcome {
         (&[1, 1, 1, 7], "refused 3\n"),
     ];
     for (field, text) in fields {
-        report(desk, &[field, &[2, 0, 4, 0, 0, 0, 20]].concat(), text)?;
+        report(desk, &[field, LEVEL].concat(), text)?;
     }
     report(desk, &[1, 0, 2, 1], "refused 1\n")
 }

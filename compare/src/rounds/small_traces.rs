@@ -101,7 +101,7 @@ fn count_times(tally: &mut Tally, stages: &[Stage], segments: &[Segment], servic
             count_time(tally, &format!("{direction}, some"), some, segment.last);
             count_time(tally, &format!("{direction}, all"), all, segment.last);
             let later = some.is_none() && reached_one_later(&stages[end - 1].corners, service);
-            tally.add(&format!("{direction}, some: none, but reached one later"), later as usize);
+            tally.add(&format!("{direction}, some: none, but reached one multiple later"), later as usize);
         }
     }
 }
@@ -115,6 +115,9 @@ fn count_time(tally: &mut Tally, name: &str, time: Option<u32>, last: u32) {
     tally.add(&format!("{name}: none"), time.is_none() as usize);
 }
 
+/// Whether some line has reached the level at the first multiple of the step after the last time of all.
 fn reached_one_later(corners: &[Line], service: Service) -> bool {
-    corners.iter().any(|line| has_reached(line, LAST_TIME as i128 + 1, service))
+    let step = service.step as i128;
+    let later = (LAST_TIME as i128 / step + 1) * step;
+    corners.iter().any(|line| has_reached(line, later, service))
 }

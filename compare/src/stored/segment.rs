@@ -51,8 +51,8 @@ const LONG: [Long; 28] = [
     ("4097 ranges but for one high", Shape::Bowl, 0, 1, 0, ALL + 1, ALL),
 ];
 
-/// A trial has the level, then the place of the slice that is one too short, 11 for none, then the direction; 11 and 0
-/// stand for those that are left out.
+/// A trial has the level, then the place of the slice that is one too short, 11 for none, then the direction, then the
+/// step; 11, 0 and 1 stand for those that are left out.
 pub fn trial(trial: &Trial) -> String {
     let answer = answers::segment(trial.service(), &trial.lists, FITTER);
     told(&trial.unless_short(PLACES, answer))

@@ -1,7 +1,7 @@
 //! Trials as lines of text: numbers in four lists, parted by `|`: parameters, times, lows and highs. Of a number its
 //! last 32 bits count, so that 2147483648 among the lows is the least number that a caller has.
 
-use crate::trace::{Lists, Service};
+use crate::trace::{EVERY_SECOND, Lists, RISING, Service};
 
 pub struct Trial {
     parameters: Vec<u32>,
@@ -21,10 +21,11 @@ impl Trial {
         self.parameters.first().map(|number| *number as usize)
     }
 
-    /// The first parameter as a level, and the third as a direction; 0 for one that is not there.
+    /// The first parameter as a level, the third as a direction and the fourth as a step; 0, 0 and 1 for those that are
+    /// not there.
     pub fn service(&self) -> Service {
-        let parameter = |place| self.parameters.get(place).copied().unwrap_or(0);
-        Service { level: parameter(0) as i32, direction: parameter(2) }
+        let parameter = |place, without| self.parameters.get(place).copied().unwrap_or(without);
+        Service { level: parameter(0, 0) as i32, direction: parameter(2, RISING), step: parameter(3, EVERY_SECOND) }
     }
 
     /// What a call answers that fills so many slices: the second parameter is the place of one that is too short.

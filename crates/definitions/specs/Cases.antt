@@ -11,7 +11,9 @@ use lib.ListN.{length, drop, replicate}
 use lib.IntN.{ℤ, pos, negℤ}
 use Rattle.integers.specs.Lists.{all, any, filter}
 use Rattle.integers.specs.Sorting.{insert, sorted}
+use Rattle.integers.specs.Rounding.{ceilDivℕ}
 use Rattle.integers.specs.Least.{scan, first, firstByEnds}
+use Rattle.integers.specs.Multiples.{fromTurn, toTurn, firstMultiple}
 use Rattle.integers.specs.Gcd.{euclid, gcd}
 use Rattle.integers.specs.LowestTerms.{commonDivisor}
 use Rattle.definitions.specs.Spans.{segmentRoom, cornerRoom, readRoom, writeRoom, panelRoom}
@@ -25,10 +27,10 @@ use Rattle.definitions.specs.Segments.{segments, runningAfter}
 use Rattle.definitions.specs.Outlook.{passed, hasReached, someTime, allTime, Outlook, open-strip, lines, outlookOf, endTime, outlook}
 use Rattle.definitions.specs.Results.{Segment, segmentOf, segmentsOf, rowLength}
 use Rattle.definitions.specs.Answers.{Answer, refused, accepted, _>>=_, firstRow}
-use Rattle.definitions.specs.Trial.{outside, badAddress, badDirection, notAbove, rangeRows, rangesRows, tooShort, differ, listRows, writeRows, segmentRows, latestRows, cornerRows}
+use Rattle.definitions.specs.Trial.{outside, badAddress, badDirection, badStep, notAbove, rangeRows, rangesRows, tooShort, differ, listRows, writeRows, segmentRows, latestRows, cornerRows}
 use Rattle.definitions.specs.FileNumbers.{word, bytes4, signed, unsigned}
 use Rattle.definitions.specs.FieldKinds.{field, fieldTag, fieldSize, fieldBody, fieldRest, fieldRows, takeField, optionalBy, optional, optionalField}
-use Rattle.definitions.specs.HeaderFields.{addressOf, addressBody, levelOf, directionIn, addressKind, levelKind, directionKind, readHeader, writeHeader}
+use Rattle.definitions.specs.HeaderFields.{addressOf, addressBody, levelOf, directionIn, stepIn, addressKind, levelKind, directionKind, stepKind, readHeader, writeHeader}
 use Rattle.definitions.specs.TraceFile.{Trace, rangeOf, rangeForm, rangeKind, readFields, readFile, writeRanges, writeFile}
 use Rattle.definitions.specs.Calls.{Fit, bounded, fitOf, cornersIn, readCall, writeCall, segmentCall, cornersCall}
 use Rattle.definitions.specs.Previews.{longer, Effect, joins, begins, lastOutlook, effectOf, previewCall}
@@ -38,9 +40,9 @@ use Rattle.definitions.specs.Panels.{Panel, totalHeld, commonTaken, isAt
 use Rattle.definitions.specs.PanelCalls.{roomOf, panelRows, addRows, bumped, entriesAfter, putAt, added, addCall, headRangesCall}
 use Rattle.definitions.specs.declared.entries.Entry.{Entry}
 
--- Segment with a level, a direction and lists, Corners with k and lists, Read or the report with a file, Write with an address, a level, a direction and no
--- ranges, Add with a panel, an address and a range, Head ranges with a panel and an address, Preview with a level, a direction, lists and a range, or Latest with a
--- level, a direction and lists; the slices to be filled are as long as they must be
+-- Segment with what is looked for and lists, Corners with k and lists, Read or the report with a file, Write with an address, what is looked for and no
+-- ranges, Add with a panel, an address and a range, Head ranges with a panel and an address, Preview with what is looked for, lists and a range, or Latest with
+-- what is looked for and lists; the slices to be filled are as long as they must be
 pub data Call : Type 0 where
   segment : Service → Lists → Call
   cornersAfter : ℕ → Lists → Call
@@ -92,12 +94,20 @@ minus n = negℤ (pos n)
 abbrev line : ℤ → ℤ → ℤ → Line
 line p q d = record { p = p; q = q; d = d }
 
--- what is looked for on a rising trace, and on a falling one
+-- what is looked for on a rising trace and on a falling one, at every second
 abbrev rise : ℤ → Service
-rise u = record { level = u; direction = 0 }
+rise u = record { level = u; direction = 0; step = 1 }
 
 abbrev fall : ℤ → Service
-fall u = record { level = u; direction = 1 }
+fall u = record { level = u; direction = 1; step = 1 }
+
+-- the same at the multiples of a step
+abbrev every : ℕ → Service → Service
+every n v = record { level = v .level; direction = v .direction; step = n }
+
+-- a number that stands for no direction
+abbrev turnedTo : ℕ → Service
+turnedTo n = record { level = pos 20; direction = n; step = 1 }
 
 abbrev trace : List ℕ → List ℤ → List ℤ → Lists
 trace ts us vs = record { times = ts; lows = us; highs = vs }
@@ -134,6 +144,10 @@ header11 = 1 ∷ 0 ∷ 1 ∷ 7 ∷ level20
 abbrev directionField : ℕ → List ℕ
 directionField d = 4 ∷ 0 ∷ 1 ∷ d ∷ []
 
+-- a field of tag 5 with four bytes
+abbrev stepField : ℕ → ℕ → ℕ → ℕ → List ℕ
+stepField a b c d = 5 ∷ 0 ∷ 4 ∷ a ∷ b ∷ c ∷ d ∷ []
+
 -- an address of two bytes and level 20, with no range
 abbrev header12 : ℕ → ℕ → List ℕ
 header12 a b = 1 ∷ 0 ∷ 2 ∷ a ∷ b ∷ level20
@@ -149,6 +163,18 @@ sampleFile = header11 ++ rangeField 10 0 4 ++ rangeField 20 4 8 ++ rangeField 30
 -- that of the beam head, of 90 bytes
 abbrev beamFile : List ℕ
 beamFile = header11 ++ directionField 1 ++ rangeField 10 36 40 ++ rangeField 20 32 36 ++ rangeField 30 26 30 ++ rangeField 40 29 31 ++ rangeField 50 28 31
+
+-- the sample with a step of 25, of 93 bytes
+abbrev steppedFile : List ℕ
+steppedFile = header11 ++ stepField 0 0 0 25 ++ rangeField 10 0 4 ++ rangeField 20 4 8 ++ rangeField 30 10 14 ++ rangeField 40 9 11 ++ rangeField 50 9 12
+
+-- a signal that falls from 10 at time 0 to 9 at time 10
+abbrev fallsBack : Lists
+fallsBack = trace (0 ∷ 10 ∷ []) (pos 10 ∷ pos 9 ∷ []) (pos 10 ∷ pos 9 ∷ [])
+
+-- at 9 from the first time to the last that there is
+abbrev level9 : Lists
+level9 = trace (0 ∷ 4294967295 ∷ []) (pos 9 ∷ pos 9 ∷ []) (pos 9 ∷ pos 9 ∷ [])
 
 abbrev entry : ℕ → ℕ → Entry
 entry a n = record { address = a; held = n }
@@ -208,6 +234,9 @@ traceIs address rs = opened (accepted (record { head = record { address = addres
 
 abbrev fallingIs : ℕ → List Range → Result
 fallingIs address rs = opened (accepted (record { head = record { address = address; service = fall (pos 20) }; ranges = rs }))
+
+abbrev headerIs : ℕ → Service → Result
+headerIs address v = opened (accepted (record { head = record { address = address; service = v }; ranges = [] }))
 
 abbrev bytesAre : List ℕ → Result
 bytesAre bytes = written (accepted bytes)
@@ -306,11 +335,11 @@ table =
     (part 10 30 3 (lines (line (pos 3) (pos 10) (pos 10)) (line (pos 7) (minus 70) (pos 10)) (at 30) none)
     ∷ part 40 50 2 (lines (line (minus 1) (pos 95) (pos 5)) (line (pos 3) (minus 30) (pos 10)) (at 50) none)
     ∷ [])
-    ∷ segment (record { level = pos 20; direction = 2 }) (one (pos 1) (pos 0)) gives segmented (refused 4)
-    ∷ segment (record { level = pos 20; direction = 256 }) (trace [] [] []) gives segmented (refused 4)
-    ∷ segment (record { level = pos 20; direction = 2 }) (still 4097) gives segmented (refused 7)
+    ∷ segment (turnedTo 2) (one (pos 1) (pos 0)) gives segmented (refused 4)
+    ∷ segment (turnedTo 256) (trace [] [] []) gives segmented (refused 4)
+    ∷ segment (turnedTo 2) (still 4097) gives segmented (refused 7)
     ∷ preview (fall (pos 20)) beam (range 60 (pos 24) (pos 27)) gives effectIs (joins (lines (line (minus 3) (pos 430) (pos 10)) (line (minus 1) (pos 330) (pos 10)) (at 77) (at 130)))
-    ∷ preview (record { level = pos 20; direction = 2 }) (one (pos 1) (pos 0)) (range 0 (pos 0) (pos 4)) gives seen (refused 4)
+    ∷ preview (turnedTo 2) (one (pos 1) (pos 0)) (range 0 (pos 0) (pos 4)) gives seen (refused 4)
     ∷ read (header11 ++ directionField 1) gives fallingIs 7 []
     ∷ read beamFile gives fallingIs 7 (rangesOf beam)
     ∷ read (header11 ++ directionField 0) gives opened (refused 4)
@@ -321,7 +350,7 @@ table =
     ∷ read (header11 ++ rangeField 10 36 40 ++ directionField 1) gives opened (refused 2)
     ∷ read (1 ∷ 0 ∷ 1 ∷ 7 ∷ directionField 1 ++ level20) gives opened (refused 2)
     ∷ write 7 (fall (pos 20)) gives bytesAre (header11 ++ directionField 1)
-    ∷ write 7 (record { level = pos 20; direction = 2 }) gives written (refused 4)
+    ∷ write 7 (turnedTo 2) gives written (refused 4)
     ∷ print beamFile gives textIs
     (ascii "detector 7 level 20 ranges 5 segments 2\n"
     ++ ascii "segment 1 from 10 to 30 ranges 3 slow -7 470 10 fast -3 390 10 some 39 all 64\n"
@@ -333,10 +362,50 @@ table =
     ∷ latest (rise (pos 20)) (trace [] [] []) gives trendIs 0 open-strip []
     ∷ latest (rise (pos 20)) (one (pos 0) (pos 4)) gives trendIs 1 open-strip []
     ∷ latest (rise (pos 20)) (one (pos 1) (pos 0)) gives trended (refused 5)
-    ∷ latest (record { level = pos 20; direction = 2 }) (one (pos 1) (pos 0)) gives trended (refused 4)
-    ∷ latest (record { level = pos 20; direction = 2 }) (still 4097) gives trended (refused 7)
+    ∷ latest (turnedTo 2) (one (pos 1) (pos 0)) gives trended (refused 4)
+    ∷ latest (turnedTo 2) (still 4097) gives trended (refused 7)
+    ∷ segment (every 25 (rise (pos 20))) sample gives segmentsAre
+    (part 10 30 3 (lines (line (pos 3) (pos 10) (pos 10)) (line (pos 7) (minus 70) (pos 10)) (at 50) (at 75))
+    ∷ part 40 50 2 (lines (line (minus 1) (pos 95) (pos 5)) (line (pos 3) (minus 30) (pos 10)) (at 100) none)
+    ∷ [])
+    ∷ segment (every 86400 (fall (pos 20))) beam gives segmentsAre
+    (part 10 30 3 (lines (line (minus 7) (pos 470) (pos 10)) (line (minus 3) (pos 390) (pos 10)) (at 86400) (at 86400))
+    ∷ part 40 50 2 (lines (line (minus 3) (pos 430) (pos 10)) (line (pos 1) (pos 105) (pos 5)) (at 86400) none)
+    ∷ [])
+    ∷ segment (every 10 (rise (pos 9))) fallsBack gives segmentsAre (part 0 10 2 (lines (line (minus 1) (pos 100) (pos 10)) (line (minus 1) (pos 100) (pos 10)) (at 10) (at 10)) ∷ [])
+    ∷ segment (every 11 (rise (pos 9))) fallsBack gives segmentsAre (part 0 10 2 (lines (line (minus 1) (pos 100) (pos 10)) (line (minus 1) (pos 100) (pos 10)) none none) ∷ [])
+    ∷ segment (every 11 (fall (pos 9))) fallsBack gives segmentsAre (part 0 10 2 (lines (line (minus 1) (pos 100) (pos 10)) (line (minus 1) (pos 100) (pos 10)) (at 11) (at 11)) ∷ [])
+    ∷ segment (every 3 (rise (pos 9))) level9 gives segmentsAre (part 0 4294967295 2 (lines (line (pos 0) (pos 9) (pos 1)) (line (pos 0) (pos 9) (pos 1)) (at 4294967295) (at 4294967295)) ∷ [])
+    ∷ segment (every 2 (rise (pos 9))) level9 gives segmentsAre (part 0 4294967295 2 (lines (line (pos 0) (pos 9) (pos 1)) (line (pos 0) (pos 9) (pos 1)) none none) ∷ [])
+    ∷ segment (every 0 (rise (pos 20))) (one (pos 1) (pos 0)) gives segmented (refused 4)
+    ∷ segment (every 86401 (rise (pos 20))) (trace [] [] []) gives segmented (refused 4)
+    ∷ segment (every 0 (rise (pos 20))) (still 4097) gives segmented (refused 7)
+    ∷ preview (every 60 (rise (pos 20))) sample (range 60 (pos 13) (pos 16)) gives effectIs (joins (lines (line (pos 1) (pos 70) (pos 10)) (line (pos 3) (minus 30) (pos 10)) (at 120) (at 180)))
+    ∷ preview (every 0 (rise (pos 20))) (one (pos 1) (pos 0)) (range 0 (pos 0) (pos 4)) gives seen (refused 4)
+    ∷ latest (every 60 (rise (pos 20))) sample gives trendIs 3 (lines (line (minus 1) (pos 95) (pos 5)) (line (pos 1) (pos 70) (pos 10)) (at 180) none) (line (minus 1) (pos 95) (pos 5) ∷ line (pos 1) (pos 70) (pos 10) ∷ line (minus 1) (pos 230) (pos 20) ∷ [])
+    ∷ latest (every 86401 (rise (pos 20))) (one (pos 1) (pos 0)) gives trended (refused 4)
+    ∷ read (header11 ++ stepField 0 0 0 2) gives headerIs 7 (every 2 (rise (pos 20)))
+    ∷ read (header11 ++ directionField 1 ++ stepField 0 1 81 128) gives headerIs 7 (every 86400 (fall (pos 20)))
+    ∷ read (header11 ++ stepField 0 0 0 0) gives opened (refused 4)
+    ∷ read (header11 ++ stepField 0 0 0 1) gives opened (refused 4)
+    ∷ read (header11 ++ stepField 0 1 81 129) gives opened (refused 4)
+    ∷ read (header11 ++ stepField 1 0 0 2) gives opened (refused 4)
+    ∷ read (header11 ++ (5 ∷ 0 ∷ 4 ∷ 0 ∷ 0 ∷ 0 ∷ [])) gives opened (refused 1)
+    ∷ read (header11 ++ (5 ∷ 0 ∷ 2 ∷ 0 ∷ 25 ∷ [])) gives opened (refused 3)
+    ∷ read (header11 ++ stepField 0 0 0 25 ++ directionField 1) gives opened (refused 2)
+    ∷ read (header11 ++ stepField 0 0 0 25 ++ stepField 0 0 0 25) gives opened (refused 2)
+    ∷ read (header11 ++ rangeField 10 0 4 ++ stepField 0 0 0 25) gives opened (refused 2)
+    ∷ read (1 ∷ 0 ∷ 1 ∷ 7 ∷ stepField 0 0 0 25 ++ level20) gives opened (refused 2)
+    ∷ write 7 (every 28800 (rise (pos 20))) gives bytesAre (header11 ++ stepField 0 0 112 128)
+    ∷ write 7 (every 86400 (fall (pos 20))) gives bytesAre (header11 ++ directionField 1 ++ stepField 0 1 81 128)
+    ∷ write 7 (every 0 (rise (pos 20))) gives written (refused 4)
+    ∷ write 7 (every 86401 (rise (pos 20))) gives written (refused 4)
+    ∷ print steppedFile gives textIs
+    (ascii "detector 7 level 20 ranges 5 segments 2\n"
+    ++ ascii "segment 1 from 10 to 30 ranges 3 slow 3 10 10 fast 7 -70 10 some 50 all 75\n"
+    ++ ascii "segment 2 from 40 to 50 ranges 2 slow -1 95 5 fast 3 -30 10 some 100 all none\n")
     ∷ []
 
 pub table-holds : map (λ c. run (callOf c)) table ≡ map resultOf table
-unfolding table run callOf resultOf all any filter reading fitsRange fits sideAt atOrAbove atOrBelow through throughEnds candidatesFrom candidates hasLine euclid gcd commonDivisor reduced before side between betweenSome insert sorted fitting extreme getLastD cornerOrder corners cutFrom cut lastRun segments runningAfter scan firstByEnds first directionOf passed hasReached someTime allTime outlookOf endTime outlook segmentOf segmentsOf _>>=_ firstRow outside badAddress badDirection notAbove rangeRows rangesRows tooShort zipRanges rangesOf differ listRows writeRows segmentRows latestRows cornerRows word bytes4 signed unsigned field fieldTag fieldSize fieldBody fieldRest fieldRows takeField optionalBy optional optionalField addressOf addressBody levelOf directionIn addressKind levelKind directionKind readHeader writeHeader rangeOf rangeForm rangeKind readFields readFile writeRanges writeFile fitOf cornersIn readCall writeCall segmentCall cornersCall digitsWithin decimal signedDecimal timeText lineText outlookText spanText segmentLine segmentLines traceLine refusedLine traceText reportText report reportCall totalHeld commonTaken isAt either heldBy zipTaken taken onPanel kept headRanges lastTime countedIn occurrences twice outsideAddress miscounted badPanel notPanel unknown crowded roomOf panelRows addRows bumped entriesAfter putAt added addCall headRangesCall longer lastOutlook effectOf previewCall latestBy latestRun trendOf latestCall
+unfolding table run callOf resultOf all any filter reading fitsRange fits sideAt atOrAbove atOrBelow through throughEnds candidatesFrom candidates hasLine euclid gcd commonDivisor reduced before side between betweenSome insert sorted fitting extreme getLastD cornerOrder corners cutFrom cut lastRun segments runningAfter scan firstByEnds first ceilDivℕ fromTurn toTurn firstMultiple directionOf passed hasReached someTime allTime outlookOf endTime outlook segmentOf segmentsOf _>>=_ firstRow outside badAddress badDirection badStep notAbove rangeRows rangesRows tooShort zipRanges rangesOf differ listRows writeRows segmentRows latestRows cornerRows word bytes4 signed unsigned field fieldTag fieldSize fieldBody fieldRest fieldRows takeField optionalBy optional optionalField addressOf addressBody levelOf directionIn stepIn addressKind levelKind directionKind stepKind readHeader writeHeader rangeOf rangeForm rangeKind readFields readFile writeRanges writeFile fitOf cornersIn readCall writeCall segmentCall cornersCall digitsWithin decimal signedDecimal timeText lineText outlookText spanText segmentLine segmentLines traceLine refusedLine traceText reportText report reportCall totalHeld commonTaken isAt either heldBy zipTaken taken onPanel kept headRanges lastTime countedIn occurrences twice outsideAddress miscounted badPanel notPanel unknown crowded roomOf panelRows addRows bumped entriesAfter putAt added addCall headRangesCall longer lastOutlook effectOf previewCall latestBy latestRun trendOf latestCall
 table-holds = refl

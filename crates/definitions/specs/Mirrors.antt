@@ -1,4 +1,4 @@
--- The mirror image of a trace and of what is looked for: level, lows and highs negated, lows and highs exchanged, the direction turned.
+-- The mirror image of a trace and of what is looked for: level, lows and highs negated, lows and highs exchanged, the direction turned; the step stays.
 --
 --     mirroredLine             −p, −q and the same d
 --     mirroredRange, mirroredLists   a range, and the lists of a trace
@@ -35,7 +35,7 @@ opposite (suc zero) = 0
 opposite (suc (suc n)) = suc (suc n)
 
 abbrev pub mirroredService : Service → Service
-mirroredService v = record { level = negℤ (v .level); direction = opposite (v .direction) }
+mirroredService v = record { level = negℤ (v .level); direction = opposite (v .direction); step = v .step }
 
 -- ---- what is found
 

@@ -1,8 +1,9 @@
 -- The outlook of a segment.
 --
 --     passed, hasReached     a line has reached the level at a time: on a rising trace it is at or above the level, on a falling one at or below it
---     someTime, allTime      the scope's *some* and *all*: the first time from the segment's last on at which some line, every line has reached the level
+--     someTime, allTime      the scope's *some* and *all*: the first multiple of the step, not before the segment's last time, at which some line, every line has reached the level
 --     Outlook, outlook       the scope's outlook: open where there are fewer than two ranges, none at all included, else the slow line, the fast line, *some* and *all*
+--     outlookOf, endTime     the outlook of lines by rising slope; the time of the last range
 --
 -- The lines asked are the fitting ones through two ends; that this decides it for every line of the fit is a theorem of `lines`.
 -- Assumes nothing.
@@ -10,7 +11,7 @@ use Prim.Native.Nat.{ℕ}
 use mathlib.Core.Bool.{Bool}
 use mathlib.Core.List.{List, [], _∷_, getLastD}
 use Rattle.integers.specs.Lists.{all, any}
-use Rattle.integers.specs.Least.{firstByEnds}
+use Rattle.integers.specs.Multiples.{firstMultiple}
 use Rattle.definitions.specs.Spans.{mostTime}
 use Rattle.definitions.specs.Times.{Time}
 use Rattle.definitions.specs.Services.{Direction, rising, falling, directionOf, Service}
@@ -25,12 +26,12 @@ passed falling s = atOrBelow s
 unfoldable pub hasReached : Service → ℕ → Line → Bool
 hasReached v t l = passed (directionOf (v .direction)) (sideAt l (v .level) t)
 
--- Each test passes at an end of its span if it passes at all, and `firstByEnds` then computes also where the answer is none.
+-- Each test passes at the first or the last multiple of its span if it passes at one at all, and `firstMultiple` then computes also where the answer is none.
 unfoldable pub someTime : Service → ℕ → List Line → Time
-someTime v from ls = firstByEnds (λ t. any (hasReached v t) ls) from mostTime
+someTime v from ls = firstMultiple (v .step) (λ t. any (hasReached v t) ls) from mostTime
 
 unfoldable pub allTime : Service → ℕ → List Line → Time
-allTime v from ls = firstByEnds (λ t. all (hasReached v t) ls) from mostTime
+allTime v from ls = firstMultiple (v .step) (λ t. all (hasReached v t) ls) from mostTime
 
 pub data Outlook : Type 0 where
   open-strip : Outlook

@@ -2,7 +2,7 @@
 --
 --     Direction        which way the signal of a head drifts with dust
 --     directionOf      the direction that a number stands for: 0 for rising, 1 for falling
---     Service          the service level and the number of the direction; an outlook tells when the level is reached
+--     Service          the service level, the number of the direction and the step; an outlook tells at which multiples of the step the level is reached
 --
 -- Assumes nothing.
 use Prim.Native.Nat.{ℕ, zero, suc}
@@ -20,3 +20,4 @@ directionOf (suc n) = falling
 pub record Service : Type 0 where
   pub level : ℤ
   pub direction : ℕ
+  pub step : ℕ

@@ -5,6 +5,7 @@
 --     mostRanges                       a trace has 0 to 4,096 ranges
 --     leastAddress, mostAddress        a detector's address
 --     mostDirection                    a direction is the number 0 or 1
+--     leastStep, mostStep              a step is 1 to 86,400 seconds
 --     mostHeads                        a panel has 1 to 64 entries
 --     surePlaces, commonPlaces         each head is sure of 32 places; all heads share 2,048 more
 --     readRoom, writeRoom, segmentRoom, cornerRoom   the least length of each slice that a call fills
@@ -34,13 +35,19 @@ mostAddress = 65535
 abbrev pub mostDirection : ℕ
 mostDirection = 1
 
+abbrev pub leastStep : ℕ
+leastStep = 1
+
+abbrev pub mostStep : ℕ
+mostStep = 86400
+
 -- Read: times, lows and highs
 abbrev pub readRoom : ℕ
 readRoom = mostRanges
 
 -- Write: the file's bytes, as many as the largest file has
 abbrev pub writeRoom : ℕ
-writeRoom = 61456
+writeRoom = 61463
 
 -- Segment: each of the eleven slices
 abbrev pub segmentRoom : ℕ

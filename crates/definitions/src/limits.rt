@@ -13,8 +13,13 @@ pub const MOST_ADDRESS: u32 = 65535;
 // A direction: 0 for rising, 1 for falling.
 pub const MOST_DIRECTION: u32 = 1;
 
-// The last time, with a sign, as what a quotient is compared with.
-pub const MOST_TIME: i64 = 4294967295;
+// A step, in seconds; service can start at its multiples.
+pub const LEAST_STEP: u32 = 1;
+
+pub const MOST_STEP: u32 = 86400;
+
+// The last time.
+pub const MOST_TIME: u32 = 4294967295;
 
 // Stands for a time that there is not.
 pub const NO_TIME: u64 = 4294967296;
@@ -26,7 +31,7 @@ pub const MOST_RANGES: usize = 4096;
 pub const READ_ROOM: usize = MOST_RANGES;
 
 // The least length of the slice that Write fills: the largest file.
-pub const WRITE_ROOM: usize = 61456;
+pub const WRITE_ROOM: usize = 61463;
 
 // The least length of each slice that Segment fills: two ranges always have a line, so there are no more segments.
 pub const SEGMENT_ROOM: usize = 2048;

@@ -1,4 +1,4 @@
--- A trace and its mirror image, through the calls: level, lows and highs negated, lows and highs exchanged, the direction turned. Theorems about the answers and the slices of two calls, one on
+-- A trace and its mirror image, through the calls: level, lows and highs negated, lows and highs exchanged, the direction turned, the step kept. Theorems about the answers and the slices of two calls, one on
 -- the trace (`promise`) and one on its image (`image`), whatever was lent; only the slices of both must be long enough, or some of each too short.
 --
 --     segment-mirrored           Segment gives the same number of segments, or is refused with the same number

@@ -1,17 +1,17 @@
 -- When Segment and Corners refuse and when they accept, as theorems about the answers that a caller holds.
 --
 --     segment-refused, corners-refused       refused with n exactly if a row with the number n holds and no row that is tried earlier does
---     direction-refused                      Segment gives 4 for another direction than 0 and 1, unless 8, 10 or 7 comes before
+--     service-refused                        Segment gives 4 for a level, a direction or a step outside its span, unless 8, 10 or 7 comes before
 --     segment-accepted, corners-accepted     accepted, with the number of segments, with what is told of the fit, exactly if no row holds
 --
 -- Assumes nothing.
 use mathlib.Core.Path.{_≡_, ap, _∙_}
 use mathlib.Core.Logic.{_↔_}
 use mathlib.Core.List.{List}
-use Prim.Native.Nat.{ℕ, _<_}
+use Prim.Native.Nat.{ℕ}
 use lib.IntN.{ℤ}
 use lib.ListN.{length}
-use Rattle.definitions.specs.Spans.{mostDirection, segmentRoom}
+use Rattle.definitions.specs.Spans.{segmentRoom}
 use Rattle.definitions.specs.Services.{Service}
 use Rattle.definitions.specs.Ranges.{Lists, rangesOf}
 use Rattle.definitions.specs.Segments.{runningAfter}
@@ -21,7 +21,8 @@ use Rattle.definitions.specs.Trial.{listRows, segmentRows, cornerRows}
 use Rattle.definitions.specs.Calls.{fitOf, segmentCall, cornersCall}
 use Rattle.trial_laws.specs.Rows.{NoneHolds, FirstAt}
 use Rattle.trial_laws.specs.CallLaws.{told-refused, told-accepted}
-use Rattle.trial_laws.specs.ListTrial.{segment-trial, other-bad, bad-refused}
+use Rattle.trial_laws.specs.ListTrial.{segment-trial, bad-refused}
+use Rattle.trial_laws.specs.Accepted.{GoodService, service-bad}
 use Rattle.drift.specs.declared.SegmentAnswer.{SegmentAnswer}
 use Rattle.drift.specs.declared.CornersAnswer.{CornersAnswer}
 use Rattle.drift.specs.Columns.{Columns, lengths}
@@ -33,11 +34,11 @@ module _ {v : Service} {ls : Lists} {old new : Columns} {answer : SegmentAnswer}
   unfolding segmentCall
   segment-refused = told-refused (segmentRows (lengths old) v ls) (segmentsOf v (rangesOf ls)) length (promise .answer-is)
 
-  pub direction-refused : NoneHolds (listRows segmentRoom (lengths old) ls) → mostDirection < v .direction → segmentMeaning answer ≡ refused 4
+  pub service-refused : NoneHolds (listRows segmentRoom (lengths old) ls) → ¬ GoodService v → segmentMeaning answer ≡ refused 4
   unfolding segmentCall listRows _>>=_
-  direction-refused none above =
+  service-refused none bad =
       promise .answer-is
-      ∙ ap (λ a. a >>= (λ ok. accepted (segmentsOf v (rangesOf ls))) >>= λ ss. accepted (length ss)) (segment-trial (lengths old) v ls ∙ bad-refused ls (none .0) (none .1 .0) (none .1 .1 .0) (other-bad v above))
+      ∙ ap (λ a. a >>= (λ ok. accepted (segmentsOf v (rangesOf ls))) >>= λ ss. accepted (length ss)) (segment-trial (lengths old) v ls ∙ bad-refused ls (none .0) (none .1 .0) (none .1 .1 .0) (service-bad v bad))
 
   pub segment-accepted : (segmentMeaning answer ≡ accepted (length (segmentsOf v (rangesOf ls)))) ↔ NoneHolds (segmentRows (lengths old) v ls)
   unfolding segmentCall

@@ -19,6 +19,7 @@ pub enum SegmentAnswer {
 pub fn segment(
     level: i32,
     direction: u32,
+    step: u32,
     times: &[u32],
     lows: &[i32],
     highs: &[i32],
@@ -34,7 +35,7 @@ pub fn segment(
     somes: &mut [u64],
     alls: &mut [u64],
 ) -> SegmentAnswer
-    ensures { λ r. ⌜ SegmentPromise (record { level = level; direction = direction }) (record { times = now (times .entry); lows = now (lows .entry); highs = now (highs .entry) }) (columns (now («first_times» .entry)) (now («last_times» .entry)) (now (counts .entry)) (now («slow_ps» .entry)) (now («slow_qs» .entry)) (now («slow_ds» .entry)) (now («fast_ps» .entry)) (now («fast_qs» .entry)) (now («fast_ds» .entry)) (now (somes .entry)) (now (alls .entry))) (columns (now («first_times» .exit)) (now («last_times» .exit)) (now (counts .exit)) (now («slow_ps» .exit)) (now («slow_qs» .exit)) (now («slow_ds» .exit)) (now («fast_ps» .exit)) (now («fast_qs» .exit)) (now («fast_ds» .exit)) (now (somes .exit)) (now (alls .exit))) r ⌝ }
+    ensures { λ r. ⌜ SegmentPromise (record { level = level; direction = direction; step = step }) (record { times = now (times .entry); lows = now (lows .entry); highs = now (highs .entry) }) (columns (now («first_times» .entry)) (now («last_times» .entry)) (now (counts .entry)) (now («slow_ps» .entry)) (now («slow_qs» .entry)) (now («slow_ds» .entry)) (now («fast_ps» .entry)) (now («fast_qs» .entry)) (now («fast_ds» .entry)) (now (somes .entry)) (now (alls .entry))) (columns (now («first_times» .exit)) (now («last_times» .exit)) (now (counts .exit)) (now («slow_ps» .exit)) (now («slow_qs» .exit)) (now («slow_ds» .exit)) (now («fast_ps» .exit)) (now («fast_qs» .exit)) (now («fast_ds» .exit)) (now (somes .exit)) (now (alls .exit))) r ⌝ }
 {
     let spans = three_short(
         SEGMENT_ROOM,
@@ -45,12 +46,16 @@ pub fn segment(
     let slow = three_short(SEGMENT_ROOM, slow_ps.len(), slow_qs.len(), slow_ds.len());
     let fast = three_short(SEGMENT_ROOM, fast_ps.len(), fast_qs.len(), fast_ds.len());
     let short = spans | slow | fast | (somes.len() < SEGMENT_ROOM) | (alls.len() < SEGMENT_ROOM);
-    let outside = trial::service_outside(level, direction);
+    let outside = trial::service_outside(level, direction, step);
     let number = trial::try_lists(short, outside, times, lows, highs);
     if number != 0 {
         return SegmentAnswer::Refused(number);
     }
-    let v = values::Service { level, direction };
+    let v = values::Service {
+        level,
+        direction,
+        step,
+    };
     let count = filling::fill(
         v,
         times,

@@ -48,6 +48,6 @@ module _ {ls : Lists} (a : AcceptedLists ls) {i n : ℕ} (upto : n ≤ length (l
       let k = slow s t ws in
       let l = fast s t ws in
       ap (outlook v) run-is
-      ∙ outlook-by-lines s t ws (subst Ordered run-is (run-ordered ls a i (r .end))) (subst HasLine run-is (f .line)) v (good .direction-in)
+      ∙ outlook-by-lines s t ws (subst Ordered run-is (run-ordered ls a i (r .end))) (subst HasLine run-is (f .line)) v (good .direction-in) (good .step-good .over)
       ∙ ap (lookAhead k l v) run-last
       ∙ ap₂ (λ x y. lookAhead x y v last) (sym (z .slow-is)) (sym (z .fast-is))

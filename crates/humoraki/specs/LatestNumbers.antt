@@ -47,7 +47,8 @@ use Rattle.latest.specs.GivenTrends.{lastRanges, run-length}
 use Rattle.latest.specs.LatestTheorems.{given-two, given-open, given-few, given-lines, given-some}
 use Rattle.latest.specs.AgainstSegment.{rows-same, covers-last, agrees-outlook}
 use Rattle.latest.specs.CutFromEnd.{without, CallsFromEnd, nothing-left, one-call, rest-accepted, calls-count}
-use Rattle.humoraki.specs.Promises.{SegmentLent, AfterSegment, LatestLent, eight, latestAnswer, AfterLatest}
+use Rattle.answer_numbers.specs.Told.{eight}
+use Rattle.humoraki.specs.Promises.{SegmentLent, AfterSegment, LatestLent, latestAnswer, AfterLatest}
 use Rattle.humoraki.specs.Zero as Zero
 use Rattle.humoraki.specs.PreviewNumbers.{outlookIn, outlook-means}
 use Rattle.humoraki.specs.PreviewAgreement.{segmentAnswerOf, segment-below}

@@ -1,4 +1,4 @@
--- A trace and its mirror image, through the library: level, lows and highs negated, lows and highs exchanged, the direction turned. Theorems about what two calls give and leave, one on the
+-- A trace and its mirror image, through the library: level, lows and highs negated, lows and highs exchanged, the direction turned, the step kept. Theorems about what two calls give and leave, one on the
 -- trace (`after`) and one on its image (`image`). What is lent may differ; only the slices of both calls must be long enough, or some of each too short.
 --
 --     segment-number-mirrored        both calls of Segment give one number
@@ -39,7 +39,8 @@ use Rattle.drift.specs.GivenLines.{givenLines}
 use Rattle.drift.specs.MirroredCalls.{segment-call-mirrored, numbers-mirrored, corner-count-mirrored}
 use Rattle.drift.specs.Mirror.{segment-mirrored, rows-mirrored, ring-mirrored}
 use Rattle.preview.specs.Mirror.{preview-call-mirrored}
-use Rattle.humoraki.specs.Promises.{SegmentLent, segmentAnswer, AfterSegment, cornerNumber, CornersLent, cornersAnswer, AfterCorners, PreviewLent, previewAnswer, AfterPreview, LatestLent, latestAnswer, AfterLatest}
+use Rattle.answer_numbers.specs.Told.{cornerNumber}
+use Rattle.humoraki.specs.Promises.{SegmentLent, segmentAnswer, AfterSegment, CornersLent, cornersAnswer, AfterCorners, PreviewLent, previewAnswer, AfterPreview, LatestLent, latestAnswer, AfterLatest}
 use Rattle.latest.specs.LatestPromise.{toldOf, trendMeaning, latestMeaning}
 use Rattle.latest.specs.Mirror.{mirroredTold, latest-told-mirrored, latest-answer-mirrored, ring-mirrored as latest-ring}
 use Rattle.humoraki.specs.LatestNumbers as LatestNumbers

@@ -36,7 +36,8 @@ use Rattle.preview.specs.declared.PreviewAnswer.the-variants as variants
 use Rattle.preview.specs.PreviewPromise.{previewMeaning, PreviewPromise}
 use Rattle.preview.specs.Agreement.{rows-same}
 use Rattle.preview.specs.PreviewTheorems.{agrees-outlook, agrees-begins, agrees-joins}
-use Rattle.humoraki.specs.Promises.{SegmentLent, segmentAnswer, AfterSegment, PreviewLent, eight, previewAnswer, AfterPreview}
+use Rattle.answer_numbers.specs.Told.{eight}
+use Rattle.humoraki.specs.Promises.{SegmentLent, segmentAnswer, AfterSegment, PreviewLent, previewAnswer, AfterPreview}
 use Rattle.humoraki.specs.Zero as Zero
 use Rattle.humoraki.specs.PreviewNumbers.{answer-below, effect-found, numbers-found, kind-in, joins-kind, joins-means, begins-kind, begins-zeros}
 

@@ -37,7 +37,8 @@ use Rattle.preview.specs.declared.PreviewAnswer.{PreviewAnswer}
 use Rattle.preview.specs.declared.PreviewAnswer.the-variants.{Joins, Begins}
 use Rattle.preview.specs.PreviewPromise.{previewMeaning, PreviewPromise}
 use Rattle.preview.specs.PreviewTheorems.{begins-open, joins-lines}
-use Rattle.humoraki.specs.Promises.{PreviewLent, eight, previewAnswer, AfterPreview}
+use Rattle.answer_numbers.specs.Told.{eight}
+use Rattle.humoraki.specs.Promises.{PreviewLent, previewAnswer, AfterPreview}
 use Rattle.humoraki.specs.Zero.{Accepted, preview-zero}
 
 -- ---- the answer of the call below that tells of an effect

@@ -1,8 +1,5 @@
 -- What the library promises: the number that each call gives and the contents of everything that it was lent, by equations with the scope's calls.
 --
---     Counts                                               the number and the lent count after a call with a count
---     cornerNumber                                         what the answer of Corners tells of a fit, as a count
---     eight                                                an outlook's numbers, from the eight that are lent to Preview and Latest
 --     readAnswer, segmentAnswer, cornersAnswer, previewAnswer, latestAnswer, reportAnswer, headRangesAnswer   the scope's call on what was lent
 --     ReadLent, WriteLent, SegmentLent, CornersLent, PreviewLent, LatestLent, ReportLent, HeadRangesLent   what a caller lends to be filled or set; Add is lent a panel
 --     AfterRead, AfterWrite, AfterSegment, AfterCorners, AfterPreview, AfterLatest, AfterReport, AfterAdd, AfterHeadRanges   the number, and what holds of all that after the call
@@ -31,13 +28,10 @@ use Rattle.definitions.specs.Panels.{Panel}
 use Rattle.definitions.specs.PanelCalls.{headRangesCall}
 use Rattle.trace.specs.Promises.{readInto, writeInto}
 use Rattle.drift.specs.Columns.{Columns, EachColumn, lengths}
-use Rattle.drift.specs.CornersPromise.{CornerCount, unbounded, corner-count, threeLengths}
+use Rattle.drift.specs.CornersPromise.{threeLengths}
 use Rattle.panel.specs.Promises.{lengthsOf}
 use Rattle.panel.specs.Admissions.{AddedAs}
-
-pub record Counts {B : Type 0} (answer : Answer B) (size : B → ℕ) (old new number : ℕ) : Type 0 where
-  pub number-is : number ≡ refusal answer
-  pub count-is : new ≡ given answer size old
+use Rattle.answer_numbers.specs.Told.{Counts}
 
 -- ---- Read
 
@@ -48,6 +42,7 @@ pub record ReadLent : Type 0 where
   pub address : ℕ
   pub level : ℤ
   pub direction : ℕ
+  pub step : ℕ
   pub ranges : ℕ
 
 abbrev pub readAnswer : List ℕ → ReadLent → Answer Trace
@@ -61,6 +56,7 @@ pub record AfterRead (file : List ℕ) (old new : ReadLent) (r : ℕ) : Type 0 w
   pub address-is : new .address ≡ given (readAnswer file old) (λ t. t .head .address) (old .address)
   pub level-is : new .level ≡ given (readAnswer file old) (λ t. t .head .service .level) (old .level)
   pub direction-is : new .direction ≡ given (readAnswer file old) (λ t. t .head .service .direction) (old .direction)
+  pub step-is : new .step ≡ given (readAnswer file old) (λ t. t .head .service .step) (old .step)
   pub ranges-is : new .ranges ≡ given (readAnswer file old) (λ t. length (t .ranges)) (old .ranges)
 
 -- ---- Write
@@ -94,11 +90,6 @@ pub record CornersLent : Type 0 where
   pub ds : List ℤ
   pub count : ℕ
 
--- what the call below tells of a fit, as a count
-unfoldable pub cornerNumber : CornerCount → ℕ
-cornerNumber unbounded = 0
-cornerNumber (corner-count n) = n
-
 abbrev pub cornersAnswer : ℕ → Lists → CornersLent → Answer Fit
 cornersAnswer k ls old = cornersCall (threeLengths (old .ps) (old .qs) (old .ds)) k ls
 
@@ -109,9 +100,6 @@ pub record AfterCorners (k : ℕ) (ls : Lists) (old new : CornersLent) (r : ℕ)
   pub ds-are : new .ds ≡ filled (cornersAnswer k ls old) (λ fit. map (λ l. l .d) (cornersIn fit)) (old .ds)
 
 -- ---- Preview
-
-abbrev pub eight : ℤ → ℤ → ℤ → ℤ → ℤ → ℤ → ℕ → ℕ → OutlookNumbers
-eight a b c x y z some all = record { slow = record { p = a; q = b; d = c }; fast = record { p = x; q = y; d = z }; some = some; all = all }
 
 pub record PreviewLent : Type 0 where
   pub kind : ℕ

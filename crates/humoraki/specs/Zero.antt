@@ -33,7 +33,8 @@ use Rattle.trace.specs.Promises.{writeInto}
 use Rattle.drift.specs.Columns.{lengths}
 use Rattle.drift.specs.CornersPromise.{threeLengths}
 use Rattle.panel.specs.AdmissionLaws.{all-numbered}
-use Rattle.humoraki.specs.Promises.{Counts, ReadLent, readAnswer, AfterRead, WriteLent, AfterWrite, SegmentLent, segmentAnswer, AfterSegment, CornersLent, cornersAnswer, AfterCorners, PreviewLent, previewAnswer, AfterPreview, LatestLent, latestAnswer, AfterLatest, ReportLent, reportAnswer, AfterReport, AfterAdd, HeadRangesLent, headRangesAnswer, AfterHeadRanges}
+use Rattle.answer_numbers.specs.Told.{Counts}
+use Rattle.humoraki.specs.Promises.{ReadLent, readAnswer, AfterRead, WriteLent, AfterWrite, SegmentLent, segmentAnswer, AfterSegment, CornersLent, cornersAnswer, AfterCorners, PreviewLent, previewAnswer, AfterPreview, LatestLent, latestAnswer, AfterLatest, ReportLent, reportAnswer, AfterReport, AfterAdd, HeadRangesLent, headRangesAnswer, AfterHeadRanges}
 
 abbrev pub Accepted : {A : Type 0} → Answer A → Type 0
 Accepted {A} answer = (a : A) × (answer ≡ accepted a)
@@ -74,11 +75,11 @@ read-zero {file} {old} h = zero-exactly (readAnswer file old) (λ n e. let m = r
 pub write-zero : {h : Header} {ls : Lists} {old new : WriteLent} {r : ℕ} → AfterWrite h ls old new r → (r ≡ 0) ↔ Accepted (writeInto (old .file) h ls)
 unfolding writeCall writeRows listRows
 write-zero {h} {ls} {old} after =
-    zero-exactly (writeInto (old .file) h ls) (call-above _ _ (omega arith, (omega arith, (omega arith, (omega arith, (omega arith, (omega arith, ranges-numbered none (rangesOf ls)))))))) (after .counted .number-is)
+    zero-exactly (writeInto (old .file) h ls) (call-above _ _ (omega arith, (omega arith, (omega arith, (omega arith, (omega arith, (omega arith, (omega arith, ranges-numbered none (rangesOf ls))))))))) (after .counted .number-is)
 
 service-numbered : (least : ℕ) (lengths : List ℕ) (v : Service) (ls : Lists) → Numbered (listRows least lengths ls ++ serviceRows v ++ rangesRows none (rangesOf ls))
 unfolding listRows
-service-numbered least lengths v ls = (omega arith, (omega arith, (omega arith, (omega arith, (omega arith, ranges-numbered none (rangesOf ls))))))
+service-numbered least lengths v ls = (omega arith, (omega arith, (omega arith, (omega arith, (omega arith, (omega arith, ranges-numbered none (rangesOf ls)))))))
 
 segment-numbered : (lengths : List ℕ) (v : Service) (ls : Lists) → Numbered (segmentRows lengths v ls)
 unfolding segmentRows

@@ -1,27 +1,12 @@
 // What other languages link: the calls on numbers and slices. Each gives 0, or the number of a refusal,
 // and puts its counts, records and outlooks into lent numbers: it never reads them, and sets them on success alone.
-ghost use mathlib.Core.Path.{_≡_};
-ghost use Rattle.definitions.specs.Answers.{refusal};
-ghost use Rattle.definitions.specs.Results.{outlookNumbers};
+// Each hands its slices on to the call below, and the lent numbers to the function of `answer_numbers` that tells the call's answer.
 ghost use Rattle.drift.specs.Columns.{columns};
-ghost use Rattle.panel.specs.Promises.{addMeaning, headRangesMeaning};
-ghost use Rattle.values.specs.Meanings.{lineOf, outlookOf};
-ghost use Rattle.humoraki.specs.Promises.{Counts, AfterRead, AfterWrite, AfterSegment, AfterCorners, eight, AfterPreview, AfterLatest, AfterReport, AfterAdd, AfterHeadRanges};
+ghost use Rattle.answer_numbers.specs.Told.{eight};
+ghost use Rattle.humoraki.specs.Promises.{AfterRead, AfterWrite, AfterSegment, AfterCorners, AfterPreview, AfterLatest, AfterReport, AfterAdd, AfterHeadRanges};
 use definitions::entries::Entry;
-use drift::CornersAnswer;
-use drift::SegmentAnswer;
-use latest::LatestAnswer;
-use panel::AddAnswer;
-use panel::HeadRangesAnswer;
-use preview::PreviewAnswer;
-use report_text::ReportAnswer;
-use trace::ReadAnswer;
-use trace::WriteAnswer;
-use values::Line;
-use values::Outlook;
-use values::rows::outlook_row;
 
-// The trace of a file, with its address, level, direction and number of ranges.
+// The trace of a file, with its address, level, direction, step and number of ranges.
 #[no_mangle]
 pub extern "C" fn humoraki_read(
     file: &[u8],
@@ -31,22 +16,13 @@ pub extern "C" fn humoraki_read(
     address: &mut u32,
     level: &mut i32,
     direction: &mut u32,
+    step: &mut u32,
     ranges: &mut usize,
 ) -> u8
-    ensures { λ r. ⌜ AfterRead (now (file .entry)) (record { times = now (times .entry); lows = now (lows .entry); highs = now (highs .entry); address = now (address .entry); level = now (level .entry); direction = now (direction .entry); ranges = now (ranges .entry) }) (record { times = now (times .exit); lows = now (lows .exit); highs = now (highs .exit); address = now (address .exit); level = now (level .exit); direction = now (direction .exit); ranges = now (ranges .exit) }) r ⌝ }
+    ensures { λ r. ⌜ AfterRead (now (file .entry)) (record { times = now (times .entry); lows = now (lows .entry); highs = now (highs .entry); address = now (address .entry); level = now (level .entry); direction = now (direction .entry); step = now (step .entry); ranges = now (ranges .entry) }) (record { times = now (times .exit); lows = now (lows .exit); highs = now (highs .exit); address = now (address .exit); level = now (level .exit); direction = now (direction .exit); step = now (step .exit); ranges = now (ranges .exit) }) r ⌝ }
 {
     let answer = trace::read(file, times, lows, highs);
-    match answer {
-        ReadAnswer::Accepted(known) => {
-            let service = known.level;
-            *address = known.address;
-            *level = service;
-            *direction = known.direction;
-            *ranges = known.ranges;
-            0
-        }
-        ReadAnswer::Refused(number) => number,
-    }
+    answer_numbers::tell_read(answer, address, level, direction, step, ranges)
 }
 
 // The file of a trace, and the count of its bytes.
@@ -55,22 +31,17 @@ pub extern "C" fn humoraki_write(
     address: u32,
     level: i32,
     direction: u32,
+    step: u32,
     times: &[u32],
     lows: &[i32],
     highs: &[i32],
     file: &mut [u8],
     count: &mut usize,
 ) -> u8
-    ensures { λ r. ⌜ AfterWrite (record { address = address; service = record { level = level; direction = direction } }) (record { times = now (times .entry); lows = now (lows .entry); highs = now (highs .entry) }) (record { file = now (file .entry); count = now (count .entry) }) (record { file = now (file .exit); count = now (count .exit) }) r ⌝ }
+    ensures { λ r. ⌜ AfterWrite (record { address = address; service = record { level = level; direction = direction; step = step } }) (record { times = now (times .entry); lows = now (lows .entry); highs = now (highs .entry) }) (record { file = now (file .entry); count = now (count .entry) }) (record { file = now (file .exit); count = now (count .exit) }) r ⌝ }
 {
-    let answer = trace::write(address, level, direction, times, lows, highs, file);
-    match answer {
-        WriteAnswer::Accepted(bytes) => {
-            *count = bytes;
-            0
-        }
-        WriteAnswer::Refused(number) => number,
-    }
+    let answer = trace::write(address, level, direction, step, times, lows, highs, file);
+    answer_numbers::tell_write(answer, count)
 }
 
 // The segments of a trace, and their count.
@@ -78,6 +49,7 @@ pub extern "C" fn humoraki_write(
 pub extern "C" fn humoraki_segment(
     level: i32,
     direction: u32,
+    step: u32,
     times: &[u32],
     lows: &[i32],
     highs: &[i32],
@@ -94,11 +66,12 @@ pub extern "C" fn humoraki_segment(
     alls: &mut [u64],
     count: &mut usize,
 ) -> u8
-    ensures { λ r. ⌜ AfterSegment (record { level = level; direction = direction }) (record { times = now (times .entry); lows = now (lows .entry); highs = now (highs .entry) }) (record { columns = columns (now («first_times» .entry)) (now («last_times» .entry)) (now (counts .entry)) (now («slow_ps» .entry)) (now («slow_qs» .entry)) (now («slow_ds» .entry)) (now («fast_ps» .entry)) (now («fast_qs» .entry)) (now («fast_ds» .entry)) (now (somes .entry)) (now (alls .entry)); count = now (count .entry) }) (record { columns = columns (now («first_times» .exit)) (now («last_times» .exit)) (now (counts .exit)) (now («slow_ps» .exit)) (now («slow_qs» .exit)) (now («slow_ds» .exit)) (now («fast_ps» .exit)) (now («fast_qs» .exit)) (now («fast_ds» .exit)) (now (somes .exit)) (now (alls .exit)); count = now (count .exit) }) r ⌝ }
+    ensures { λ r. ⌜ AfterSegment (record { level = level; direction = direction; step = step }) (record { times = now (times .entry); lows = now (lows .entry); highs = now (highs .entry) }) (record { columns = columns (now («first_times» .entry)) (now («last_times» .entry)) (now (counts .entry)) (now («slow_ps» .entry)) (now («slow_qs» .entry)) (now («slow_ds» .entry)) (now («fast_ps» .entry)) (now («fast_qs» .entry)) (now («fast_ds» .entry)) (now (somes .entry)) (now (alls .entry)); count = now (count .entry) }) (record { columns = columns (now («first_times» .exit)) (now («last_times» .exit)) (now (counts .exit)) (now («slow_ps» .exit)) (now («slow_qs» .exit)) (now («slow_ds» .exit)) (now («fast_ps» .exit)) (now («fast_qs» .exit)) (now («fast_ds» .exit)) (now (somes .exit)) (now (alls .exit)); count = now (count .exit) }) r ⌝ }
 {
     let answer = drift::segment(
         level,
         direction,
+        step,
         times,
         lows,
         highs,
@@ -114,13 +87,7 @@ pub extern "C" fn humoraki_segment(
         somes,
         alls,
     );
-    match answer {
-        SegmentAnswer::Accepted(segments) => {
-            *count = segments;
-            0
-        }
-        SegmentAnswer::Refused(number) => number,
-    }
+    answer_numbers::tell_segment(answer, count)
 }
 
 // The corners of the fit of the segment then running after the first k ranges, and their count, which is 0 where the fit is open.
@@ -138,52 +105,7 @@ pub extern "C" fn humoraki_corners(
     ensures { λ r. ⌜ AfterCorners k (record { times = now (times .entry); lows = now (lows .entry); highs = now (highs .entry) }) (record { ps = now (ps .entry); qs = now (qs .entry); ds = now (ds .entry); count = now (count .entry) }) (record { ps = now (ps .exit); qs = now (qs .exit); ds = now (ds .exit); count = now (count .exit) }) r ⌝ }
 {
     let answer = drift::corners(k, times, lows, highs, ps, qs, ds);
-    match answer {
-        CornersAnswer::Corners(corners) => {
-            *count = corners;
-            0
-        }
-        CornersAnswer::Open => {
-            *count = 0;
-            0
-        }
-        CornersAnswer::Refused(number) => number,
-    }
-}
-
-// A line into three lent numbers.
-fn tell_line(l: Line, into_p: &mut i64, into_q: &mut i64, into_d: &mut i64)
-    ensures { λ _. ⌜ lineOf l ≡ record { p = now («into_p» .exit); q = now («into_q» .exit); d = now («into_d» .exit) } ⌝ }
-{
-    let p = l.p;
-    let q = l.q;
-    let d = l.d;
-    *into_p = p;
-    *into_q = q;
-    *into_d = d;
-}
-
-// An outlook into eight lent numbers.
-fn tell_outlook(
-    o: Outlook,
-    slow_p: &mut i64,
-    slow_q: &mut i64,
-    slow_d: &mut i64,
-    fast_p: &mut i64,
-    fast_q: &mut i64,
-    fast_d: &mut i64,
-    some: &mut u64,
-    all: &mut u64,
-)
-    ensures { λ _. ⌜ eight (now («slow_p» .exit)) (now («slow_q» .exit)) (now («slow_d» .exit)) (now («fast_p» .exit)) (now («fast_q» .exit)) (now («fast_d» .exit)) (now (some .exit)) (now (all .exit)) ≡ outlookNumbers (outlookOf o) ⌝ }
-{
-    let row = outlook_row(o);
-    let slow = row.slow;
-    let fast = row.fast;
-    tell_line(slow, slow_p, slow_q, slow_d);
-    tell_line(fast, fast_p, fast_q, fast_d);
-    *some = row.some;
-    *all = row.all;
+    answer_numbers::tell_corners(answer, count)
 }
 
 // The effect of a range before it is added: its kind, 0 where it joins the last segment and 1 where it begins one, and the outlook of the last segment then.
@@ -191,6 +113,7 @@ fn tell_outlook(
 pub extern "C" fn humoraki_preview(
     level: i32,
     direction: u32,
+    step: u32,
     times: &[u32],
     lows: &[i32],
     highs: &[i32],
@@ -207,22 +130,21 @@ pub extern "C" fn humoraki_preview(
     some: &mut u64,
     all: &mut u64,
 ) -> u8
-    ensures { λ r. ⌜ AfterPreview (record { level = level; direction = direction }) (record { times = now (times .entry); lows = now (lows .entry); highs = now (highs .entry) }) (record { time = time; low = low; high = high }) (record { kind = now (kind .entry); numbers = eight (now («slow_p» .entry)) (now («slow_q» .entry)) (now («slow_d» .entry)) (now («fast_p» .entry)) (now («fast_q» .entry)) (now («fast_d» .entry)) (now (some .entry)) (now (all .entry)) }) (record { kind = now (kind .exit); numbers = eight (now («slow_p» .exit)) (now («slow_q» .exit)) (now («slow_d» .exit)) (now («fast_p» .exit)) (now («fast_q» .exit)) (now («fast_d» .exit)) (now (some .exit)) (now (all .exit)) }) r ⌝ }
+    ensures { λ r. ⌜ AfterPreview (record { level = level; direction = direction; step = step }) (record { times = now (times .entry); lows = now (lows .entry); highs = now (highs .entry) }) (record { time = time; low = low; high = high }) (record { kind = now (kind .entry); numbers = eight (now («slow_p» .entry)) (now («slow_q» .entry)) (now («slow_d» .entry)) (now («fast_p» .entry)) (now («fast_q» .entry)) (now («fast_d» .entry)) (now (some .entry)) (now (all .entry)) }) (record { kind = now (kind .exit); numbers = eight (now («slow_p» .exit)) (now («slow_q» .exit)) (now («slow_d» .exit)) (now («fast_p» .exit)) (now («fast_q» .exit)) (now («fast_d» .exit)) (now (some .exit)) (now (all .exit)) }) r ⌝ }
 {
-    let answer = preview::preview(level, direction, times, lows, highs, time, low, high);
-    match answer {
-        PreviewAnswer::Joins(o) => {
-            *kind = 0;
-            tell_outlook(o, slow_p, slow_q, slow_d, fast_p, fast_q, fast_d, some, all);
-            0
-        }
-        PreviewAnswer::Begins(o) => {
-            *kind = 1;
-            tell_outlook(o, slow_p, slow_q, slow_d, fast_p, fast_q, fast_d, some, all);
-            0
-        }
-        PreviewAnswer::Refused(number) => number,
-    }
+    let answer = preview::preview(level, direction, step, times, lows, highs, time, low, high);
+    answer_numbers::tell_preview(
+        answer,
+        kind,
+        slow_p,
+        slow_q,
+        slow_d,
+        fast_p,
+        fast_q,
+        fast_d,
+        some,
+        all,
+    )
 }
 
 // The latest trend of a trace: how many ranges it has, its outlook, its corners and their count. No range and one range are open, without corners.
@@ -230,6 +152,7 @@ pub extern "C" fn humoraki_preview(
 pub extern "C" fn humoraki_latest(
     level: i32,
     direction: u32,
+    step: u32,
     times: &[u32],
     lows: &[i32],
     highs: &[i32],
@@ -247,19 +170,22 @@ pub extern "C" fn humoraki_latest(
     all: &mut u64,
     corners: &mut usize,
 ) -> u8
-    ensures { λ r. ⌜ AfterLatest (record { level = level; direction = direction }) (record { times = now (times .entry); lows = now (lows .entry); highs = now (highs .entry) }) (record { ps = now (ps .entry); qs = now (qs .entry); ds = now (ds .entry); ranges = now (ranges .entry); numbers = eight (now («slow_p» .entry)) (now («slow_q» .entry)) (now («slow_d» .entry)) (now («fast_p» .entry)) (now («fast_q» .entry)) (now («fast_d» .entry)) (now (some .entry)) (now (all .entry)); corners = now (corners .entry) }) (record { ps = now (ps .exit); qs = now (qs .exit); ds = now (ds .exit); ranges = now (ranges .exit); numbers = eight (now («slow_p» .exit)) (now («slow_q» .exit)) (now («slow_d» .exit)) (now («fast_p» .exit)) (now («fast_q» .exit)) (now («fast_d» .exit)) (now (some .exit)) (now (all .exit)); corners = now (corners .exit) }) r ⌝ }
+    ensures { λ r. ⌜ AfterLatest (record { level = level; direction = direction; step = step }) (record { times = now (times .entry); lows = now (lows .entry); highs = now (highs .entry) }) (record { ps = now (ps .entry); qs = now (qs .entry); ds = now (ds .entry); ranges = now (ranges .entry); numbers = eight (now («slow_p» .entry)) (now («slow_q» .entry)) (now («slow_d» .entry)) (now («fast_p» .entry)) (now («fast_q» .entry)) (now («fast_d» .entry)) (now (some .entry)) (now (all .entry)); corners = now (corners .entry) }) (record { ps = now (ps .exit); qs = now (qs .exit); ds = now (ds .exit); ranges = now (ranges .exit); numbers = eight (now («slow_p» .exit)) (now («slow_q» .exit)) (now («slow_d» .exit)) (now («fast_p» .exit)) (now («fast_q» .exit)) (now («fast_d» .exit)) (now (some .exit)) (now (all .exit)); corners = now (corners .exit) }) r ⌝ }
 {
-    let answer = latest::latest(level, direction, times, lows, highs, ps, qs, ds);
-    match answer {
-        LatestAnswer::Accepted(trend) => {
-            let o = trend.outlook;
-            *ranges = trend.ranges;
-            tell_outlook(o, slow_p, slow_q, slow_d, fast_p, fast_q, fast_d, some, all);
-            *corners = trend.corners;
-            0
-        }
-        LatestAnswer::Refused(number) => number,
-    }
+    let answer = latest::latest(level, direction, step, times, lows, highs, ps, qs, ds);
+    answer_numbers::tell_latest(
+        answer,
+        ranges,
+        slow_p,
+        slow_q,
+        slow_d,
+        fast_p,
+        fast_q,
+        fast_d,
+        some,
+        all,
+        corners,
+    )
 }
 
 // The report of a file, and the count of its bytes.
@@ -268,23 +194,7 @@ pub extern "C" fn humoraki_report(file: &[u8], text: &mut [u8], count: &mut usiz
     ensures { λ r. ⌜ AfterReport (now (file .entry)) (record { text = now (text .entry); count = now (count .entry) }) (record { text = now (text .exit); count = now (count .exit) }) r ⌝ }
 {
     let answer = report_text::report(file, text);
-    match answer {
-        ReportAnswer::Accepted(length) => {
-            *count = length;
-            0
-        }
-        ReportAnswer::Refused(number) => number,
-    }
-}
-
-// The number that an answer of Add is given as.
-fn add_number(answer: AddAnswer) -> u8
-    ensures { λ r. ⌜ r ≡ refusal (addMeaning answer) ⌝ }
-{
-    match answer {
-        AddAnswer::Accepted => 0,
-        AddAnswer::Refused(number) => number,
-    }
+    answer_numbers::tell_report(answer, count)
 }
 
 // One range more of one head, on a panel of many.
@@ -313,20 +223,7 @@ pub extern "C" fn humoraki_add(
         low,
         high,
     );
-    add_number(answer)
-}
-
-// The number that an answer of Head ranges is given as; the count is lent.
-fn tell_count(answer: HeadRangesAnswer, count: &mut usize) -> u8
-    ensures { λ r. ⌜ Counts (headRangesMeaning answer) (λ n. n) (now (count .entry)) (now (count .exit)) r ⌝ }
-{
-    match answer {
-        HeadRangesAnswer::Accepted(ranges) => {
-            *count = ranges;
-            0
-        }
-        HeadRangesAnswer::Refused(number) => number,
-    }
+    answer_numbers::add_number(answer)
 }
 
 // The ranges of one head of a panel, and their count.
@@ -356,5 +253,5 @@ pub extern "C" fn humoraki_head_ranges(
         into_lows,
         into_highs,
     );
-    tell_count(answer, count)
+    answer_numbers::tell_head_ranges(answer, count)
 }

@@ -20,4 +20,5 @@ pub mod Lists
 pub mod Images
 pub mod Sorting
 pub mod Least
+pub mod Multiples
 pub mod Crossing

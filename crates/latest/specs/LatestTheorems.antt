@@ -104,7 +104,7 @@ module _ {v : Service} {ls : Lists} {ps qs ds ps′ qs′ ds′ : List ℤ} {t :
   pub given-lines : 2 ≤ length (ls .times) → LinesOf v last (getD (ls .times) (length (ls .times) - 1) 0) (outlookOf (t .outlook))
   given-lines h =
       let two = given-two h in
-      let means = run-lines v (taken-good promise .direction-in) last (omega (arith, run-length promise .0)) (run-ordered promise) (good-run HasLine last (given-line (omega arith))) in
+      let means = run-lines v (taken-good promise .direction-in) (taken-good promise .step-good .over) last (omega (arith, run-length promise .0)) (run-ordered promise) (good-run HasLine last (given-line (omega arith))) in
       subst (LinesOf v last (getD (ls .times) (length (ls .times) - 1) 0)) (sym (told-outlook promise)) (subst (λ x. LinesOf v last x (outlook v last)) (last-time (omega arith) (omega arith)) means)
 
   few-run : length (ls .times) < 2 → last ≡ rs

@@ -1,4 +1,4 @@
--- Latest on a trace and on its mirror image: level, lows and highs negated, lows and highs exchanged, the direction turned. Theorems about the answers and the slices of two calls, one on the
+-- Latest on a trace and on its mirror image: level, lows and highs negated, lows and highs exchanged, the direction turned, the step kept. Theorems about the answers and the slices of two calls, one on the
 -- trace (`promise`) and one on its image (`image`), whatever was lent; only the slices of both must be long enough, or some of each too short.
 --
 --     mirroredTold             as many ranges and corners, and the image of the outlook

@@ -2,15 +2,15 @@
 --
 --     latest-refused         refused with n exactly if a row with the number n holds and no row that is tried earlier does
 --     latest-accepted        accepted, with what is told of the trend, exactly if no row holds
---     direction-refused      refused with 4 for another direction than 0 and 1, unless 8, 10 or 7 comes before
+--     service-refused        refused with 4 for a level, a direction or a step outside its span, unless 8, 10 or 7 comes before
 --
 -- Assumes nothing.
 use mathlib.Core.Path.{_≡_, ap, _∙_}
 use mathlib.Core.Logic.{_↔_}
 use mathlib.Core.List.{List}
-use Prim.Native.Nat.{ℕ, _<_}
+use Prim.Native.Nat.{ℕ}
 use lib.IntN.{ℤ}
-use Rattle.definitions.specs.Spans.{mostDirection, cornerRoom}
+use Rattle.definitions.specs.Spans.{cornerRoom}
 use Rattle.definitions.specs.Services.{Service}
 use Rattle.definitions.specs.Ranges.{Lists, rangesOf}
 use Rattle.definitions.specs.Answers.{refused, accepted, _>>=_}
@@ -18,7 +18,8 @@ use Rattle.definitions.specs.Trial.{listRows, latestRows}
 use Rattle.definitions.specs.Latest.{latestRun, trendOf, latestCall}
 use Rattle.trial_laws.specs.Rows.{NoneHolds, FirstAt}
 use Rattle.trial_laws.specs.CallLaws.{told-refused, told-accepted}
-use Rattle.trial_laws.specs.ListTrial.{latest-trial, other-bad, bad-refused}
+use Rattle.trial_laws.specs.ListTrial.{latest-trial, bad-refused}
+use Rattle.trial_laws.specs.Accepted.{GoodService, service-bad}
 use Rattle.drift.specs.CornersPromise.{threeLengths}
 use Rattle.latest.specs.declared.LatestAnswer.{LatestAnswer}
 use Rattle.latest.specs.LatestPromise.{toldOf, latestMeaning, LatestPromise}
@@ -35,8 +36,8 @@ module _ {v : Service} {ls : Lists} {ps qs ds ps′ qs′ ds′ : List ℤ} {ans
   unfolding latestCall
   latest-accepted = told-accepted (latestRows ns v ls) (trendOf v (latestRun (rangesOf ls))) toldOf (promise .answer-is)
 
-  pub direction-refused : NoneHolds (listRows cornerRoom ns ls) → mostDirection < v .direction → latestMeaning answer ≡ refused 4
+  pub service-refused : NoneHolds (listRows cornerRoom ns ls) → ¬ GoodService v → latestMeaning answer ≡ refused 4
   unfolding latestCall listRows _>>=_
-  direction-refused none above =
+  service-refused none bad =
       promise .answer-is
-      ∙ ap (λ a. a >>= (λ ok. accepted (trendOf v (latestRun (rangesOf ls)))) >>= λ t. accepted (toldOf t)) (latest-trial ns v ls ∙ bad-refused ls (none .0) (none .1 .0) (none .1 .1 .0) (other-bad v above))
+      ∙ ap (λ a. a >>= (λ ok. accepted (trendOf v (latestRun (rangesOf ls)))) >>= λ t. accepted (toldOf t)) (latest-trial ns v ls ∙ bad-refused ls (none .0) (none .1 .0) (none .1 .1 .0) (service-bad v bad))

@@ -23,12 +23,11 @@ fn read_backward(
     requires { ⌜ RoomFor (lent (now times) (now highs) (now lows)) (lent (now «back_times») (now «back_highs») (now «back_lows»)) ⌝ }
     ensures { λ _. ⌜ ReadBackward (lent (now (times .entry)) (now (highs .entry)) (now (lows .entry))) (lent (now («back_times» .exit)) (now («back_highs» .exit)) (now («back_lows» .exit))) ⌝ }
 {
-    let last = MOST_TIME as u32;
     let n = times.len();
     let mut k = 0;
     while k < n {
         let from = n - 1 - k;
-        back_times[k] = last - times[from];
+        back_times[k] = MOST_TIME - times[from];
         back_highs[k] = highs[from];
         back_lows[k] = lows[from];
         k += 1;

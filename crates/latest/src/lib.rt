@@ -93,6 +93,7 @@ fn find_trend(
 pub fn latest(
     level: i32,
     direction: u32,
+    step: u32,
     times: &[u32],
     lows: &[i32],
     highs: &[i32],
@@ -100,10 +101,10 @@ pub fn latest(
     qs: &mut [i64],
     ds: &mut [i64],
 ) -> LatestAnswer
-    ensures { λ r. ⌜ LatestPromise (record { level = level; direction = direction }) (record { times = now (times .entry); lows = now (lows .entry); highs = now (highs .entry) }) (now (ps .entry)) (now (qs .entry)) (now (ds .entry)) (now (ps .exit)) (now (qs .exit)) (now (ds .exit)) r ⌝ }
+    ensures { λ r. ⌜ LatestPromise (record { level = level; direction = direction; step = step }) (record { times = now (times .entry); lows = now (lows .entry); highs = now (highs .entry) }) (now (ps .entry)) (now (qs .entry)) (now (ds .entry)) (now (ps .exit)) (now (qs .exit)) (now (ds .exit)) r ⌝ }
 {
     let short = three_short(CORNER_ROOM, ps.len(), qs.len(), ds.len());
-    let outside = trial::service_outside(level, direction);
+    let outside = trial::service_outside(level, direction, step);
     let number = trial::try_lists(short, outside, times, lows, highs);
     if number != 0 {
         return LatestAnswer::Refused(number);
@@ -117,7 +118,11 @@ pub fn latest(
         };
         return LatestAnswer::Accepted(open);
     }
-    let v = Service { level, direction };
+    let v = Service {
+        level,
+        direction,
+        step,
+    };
     let found = find_trend(v, times, lows, highs, ps, qs, ds);
     LatestAnswer::Accepted(found)
 }

@@ -16,7 +16,7 @@ use Rattle.integers.specs.RingLaws.{*ℤ-neg}
 use Rattle.integers.specs.OrderLaws.{neg-≤-iff}
 use Rattle.integers.specs.Quotes.{quotes, ring! }
 use Rattle.integers.specs.Booleans.{T-ext}
-use Rattle.integers.specs.Least.{firstByEnds}
+use Rattle.integers.specs.Multiples.{firstMultiple}
 use Rattle.definitions.specs.Spans.{mostTime, mostDirection}
 use Rattle.definitions.specs.Ranges.{Range}
 use Rattle.definitions.specs.Services.{falling, directionOf, Service}
@@ -61,11 +61,11 @@ module _ (v : Service) (good : v .direction ≤ mostDirection) where
 
   pub reachTime-mirrored : (from : ℕ) (l : Line) → reachTime (mirroredService v) from (mirroredLine l) ≡ reachTime v from l
   unfolding reachTime
-  reachTime-mirrored from l = λ i. firstByEnds (λ t. hasReached-mirrored t l i) from mostTime
+  reachTime-mirrored from l = λ i. firstMultiple (v .step) (λ t. hasReached-mirrored t l i) from mostTime
 
 -- of every number that stands for falling
-pub reachTime-falling : (v : Service) → directionOf (v .direction) ≡ falling → (from : ℕ) (l : Line) → reachTime v from l ≡ reachTime (rises (negℤ (v .level))) from (mirroredLine l)
+pub reachTime-falling : (v : Service) → directionOf (v .direction) ≡ falling → (from : ℕ) (l : Line) → reachTime v from l ≡ reachTime (rises (negℤ (v .level)) (v .step)) from (mirroredLine l)
 unfolding reachTime hasReached directionOf
 reachTime-falling v e from l =
-    (λ i. firstByEnds (λ t. passed (e i) (sideAt l (v .level) t)) from mostTime)
-    ∙ sym (reachTime-mirrored (record { level = v .level; direction = 1 }) (omega arith) from l)
+    (λ i. firstMultiple (v .step) (λ t. passed (e i) (sideAt l (v .level) t)) from mostTime)
+    ∙ sym (reachTime-mirrored (record { level = v .level; direction = 1; step = v .step }) (omega arith) from l)

@@ -10,7 +10,7 @@ use mathlib.Core.Path.{_≡_, refl, sym, subst, _∙_, ap, ap₂}
 use mathlib.Core.List.{List, [], _∷_, map, reverse, flatten, getLastD}
 use Prim.Native.Nat.{ℕ, _≤_}
 use lib.ListN.{length-map}
-use Rattle.integers.specs.Least.{firstByEnds}
+use Rattle.integers.specs.Multiples.{firstMultiple}
 use Rattle.integers.specs.Lists.{All, nil, cons}
 use Rattle.integers.specs.Images.{Backward, backward, last-map, any-images, all-images}
 use Rattle.definitions.specs.Spans.{mostTime, mostDirection}
@@ -44,11 +44,11 @@ module _ (v : Service) (good : v .direction ≤ mostDirection) where
   module _ (from : ℕ) (ls : List Line) where
     some-mirrored : someTime (mirroredService v) from (reverse (map mirroredLine ls)) ≡ someTime v from ls
     unfolding someTime
-    some-mirrored = λ i. firstByEnds (λ t. any-images mirroredLine (hasReached v t) (hasReached (mirroredService v) t) (hasReached-mirrored v good t) ls i) from mostTime
+    some-mirrored = λ i. firstMultiple (v .step) (λ t. any-images mirroredLine (hasReached v t) (hasReached (mirroredService v) t) (hasReached-mirrored v good t) ls i) from mostTime
 
     all-mirrored : allTime (mirroredService v) from (reverse (map mirroredLine ls)) ≡ allTime v from ls
     unfolding allTime
-    all-mirrored = λ i. firstByEnds (λ t. all-images mirroredLine (hasReached v t) (hasReached (mirroredService v) t) (hasReached-mirrored v good t) ls i) from mostTime
+    all-mirrored = λ i. firstMultiple (v .step) (λ t. all-images mirroredLine (hasReached v t) (hasReached (mirroredService v) t) (hasReached-mirrored v good t) ls i) from mostTime
 
   of-mirrored : (from : ℕ) (ls : List Line) → outlookOf (mirroredService v) from (reverse (map mirroredLine ls)) ≡ mirroredOutlook (outlookOf v from ls)
   unfolding outlookOf mirroredOutlook

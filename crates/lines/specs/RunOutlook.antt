@@ -1,8 +1,9 @@
--- The outlook of a run of two or more ranges, by the polygon's two lines: what a program has to compute, and what it means. For a direction that is the number 0 or 1; the falling case is the rising one of the mirror image.
+-- The outlook of a run of two or more ranges, by the polygon's two lines: what a program has to compute, and what it means. For a direction that is the number 0 or 1 and a step above 0; the falling case is the rising one of the mirror image.
 --
 --     leading, trailing          of the slow and the fast line, the one that decides *some* and the other, that decides *all*: rising, the fast one leads; falling, the slow one
---     first-last                 the first and the last of the fitting lines are the polygon's slow and fast line
---     OutlookMeans, outlook-means   the slow line has the least slope of the whole fit and the fast line the greatest; *some* and *all* are the least times of the scope, over all lines of the fit, and each is the time of one line
+--     FirstLast, first-last      the first and the last of the fitting lines are the polygon's slow and fast line
+--     OutlookMeans, outlook-means   the slow line has the least slope of the whole fit and the fast line the greatest; *some* and *all* are the least multiples of the step that the scope asks for, over all lines of the fit, and each is the time of one line
+--     every-second               with a step of 1 the times are the least of all times
 --     LinesOf, run-lines         the same of a run of two ranges or more, however it is given
 --     outlook-by-lines           the outlook is the polygon's two lines in lowest terms, with the time at which the leading one reaches the level and the time at which the trailing one does
 --
@@ -10,14 +11,15 @@
 use mathlib.Core.Path.{_≡_, refl, sym, subst, _∙_, ap, ap₂}
 use mathlib.Core.Logic.{inl, inr, _↔_}
 use mathlib.Core.List.{List, [], _∷_, getLastD}
-use Prim.Native.Nat.{ℕ, zero, suc, _≤_}
+use Prim.Native.Nat.{ℕ, zero, suc, _≤_, _<_}
 use native.Mathlib.Omega.{arith}
 use lib.Dec.{T}
 use lib.IntN.{ℤ, negℤ}
 use lib.ListN.{length}
 use Rattle.integers.specs.OrderLaws.{<ℤ→≤ℤ, ≤ℤ-of-≡}
 use Rattle.integers.specs.Lists.{All, cons, Any, In, here, in-last, not-in-nil, All-in, All-imp}
-use Rattle.integers.specs.Least.{IsLeast, least-iff}
+use Rattle.integers.specs.Least.{IsLeast}
+use Rattle.integers.specs.Multiples.{LeastMultiple, multiple-iff, every-number}
 use Rattle.integers.specs.Sorting.{Rising, rising-head, rising-last}
 use Rattle.definitions.specs.Services.{Direction, rising, falling, directionOf, Service}
 use Rattle.definitions.specs.Spans.{mostTime, mostDirection}
@@ -54,10 +56,17 @@ pub record OutlookMeans (v : Service) (rs : List Range) (from : ℕ) (k l : Line
   pub fast-proper : Proper l
   pub fast-fit : InFit rs l
   pub fast-greatest : (m : Line) → InFit rs m → SlopeAtMost m l
-  pub some-is : IsLeast (SomeReached rs v) from mostTime some
-  pub all-is : IsLeast (AllReached rs v) from mostTime all
+  pub some-is : LeastMultiple (v .step) (SomeReached rs v) from mostTime some
+  pub all-is : LeastMultiple (v .step) (AllReached rs v) from mostTime all
   pub some-by : some ≡ reachTime v from (leading (directionOf (v .direction)) k l)
   pub all-by : all ≡ reachTime v from (trailing (directionOf (v .direction)) k l)
+
+pub every-second : {v : Service} {rs : List Range} {from : ℕ} {k l : Line} {some all : Time} → v .step ≡ 1 → OutlookMeans v rs from k l some all
+    → IsLeast (SomeReached rs v) from mostTime some × IsLeast (AllReached rs v) from mostTime all
+every-second {v} {rs} {from} {some = x} {all = y} one means = (
+  every-number .0 (subst (λ n. LeastMultiple n (SomeReached rs v) from mostTime x) one (means .some-is)),
+  every-number .0 (subst (λ n. LeastMultiple n (AllReached rs v) from mostTime y) one (means .all-is)),
+)
 
 -- an outlook that has two lines, and means this
 abbrev MeansOf : Service → List Range → ℕ → Outlook → Type 0
@@ -161,12 +170,12 @@ module _ (r s : Range) (ws : List Range) (o : Ordered (r ∷ s ∷ ws)) (h : Has
           ∙ ap₂ (λ j m. lines j m (someTime v (endTime s ws) (fitting (r ∷ s ∷ ws))) (allTime v (endTime s ws) (fitting (r ∷ s ∷ ws)))) (e .first) (e .last)
 
   -- ---- a rising trace
-  rising-means : (level : ℤ) → MeansOf (rises level) (r ∷ s ∷ ws) (endTime s ws) (outlook (rises level) (r ∷ s ∷ ws))
+  rising-means : (level : ℤ) (step : ℕ) → 0 < step → MeansOf (rises level step) (r ∷ s ∷ ws) (endTime s ws) (outlook (rises level step) (r ∷ s ∷ ws))
   unfolding directionOf
-  rising-means level = subst (MeansOf (rises level) (r ∷ s ∷ ws) (endTime s ws)) (sym (shown (rises level))) means
+  rising-means level step over = subst (MeansOf (rises level step) (r ∷ s ∷ ws) (endTime s ws)) (sym (shown (rises level step))) means
     where
-      means : OutlookMeans (rises level) (r ∷ s ∷ ws) (endTime s ws) (reduced (slow r s ws)) (reduced (fast r s ws))
-          (someTime (rises level) (endTime s ws) (fitting (r ∷ s ∷ ws))) (allTime (rises level) (endTime s ws) (fitting (r ∷ s ∷ ws)))
+      means : OutlookMeans (rises level step) (r ∷ s ∷ ws) (endTime s ws) (reduced (slow r s ws)) (reduced (fast r s ws))
+          (someTime (rises level step) (endTime s ws) (fitting (r ∷ s ∷ ws))) (allTime (rises level step) (endTime s ws) (fitting (r ∷ s ∷ ws)))
       means =
           let x = extremes-of r s ws o h in
           record {
@@ -176,10 +185,10 @@ module _ (r s : Range) (ws : List Range) (o : Ordered (r ∷ s ∷ ws)) (h : Has
             fast-proper = reduced-proper (fast r s ws) (fast-fits r s ws o h .positive);
             fast-fit = InFit-same fast-restates (fast-fits r s ws o h);
             fast-greatest = λ m k. order-≤ (slope-same {k = m} {k′ = m} (restates-refl (k .positive)) fast-restates) (fast-greatest r s ws o h m k);
-            some-is = some-least x listed level;
-            all-is = all-least x listed level;
-            some-by = some-by-fast x listed level ∙ reachTime-same (rises level) (endTime s ws) fast-restates;
-            all-by = all-by-slow x listed level ∙ reachTime-same (rises level) (endTime s ws) slow-restates;
+            some-is = some-least x listed level step over;
+            all-is = all-least x listed level step over;
+            some-by = some-by-fast x listed level step over ∙ reachTime-same (rises level step) (endTime s ws) fast-restates;
+            all-by = all-by-slow x listed level step over ∙ reachTime-same (rises level step) (endTime s ws) slow-restates;
           }
 
 -- ---- from the mirror image
@@ -220,8 +229,8 @@ module _ (v : Service) (good : v .direction ≤ mostDirection) (rs : List Range)
         fast-proper = proper-mirrored (x .slow-proper);
         fast-fit = InFit-back rs k (x .slow-fit);
         fast-greatest = λ m f. subst (λ j. SlopeAtMost j (mirroredLine k)) (negL-negL m) (neg-slope≤ k (mirroredLine m) (x .slow-least (mirroredLine m) (InFit-mirrored f)));
-        some-is = least-iff (λ t a b. some-back t) (x .some-is);
-        all-is = least-iff (λ t a b. all-back t) (x .all-is);
+        some-is = multiple-iff (λ t a. some-back t) (x .some-is);
+        all-is = multiple-iff (λ t a. all-back t) (x .all-is);
         some-by = x .some-by ∙ time-back from k l;
         all-by = x .all-by ∙ time-back from l k;
       }
@@ -233,21 +242,21 @@ module _ (v : Service) (good : v .direction ≤ mostDirection) (rs : List Range)
 
 -- ---- either direction
 module _ (r s : Range) (ws : List Range) (o : Ordered (r ∷ s ∷ ws)) (h : HasLine (r ∷ s ∷ ws)) where
-  by-direction : (level : ℤ) (n : ℕ) → n ≤ mostDirection
-      → MeansOf (record { level = level; direction = n }) (r ∷ s ∷ ws) (endTime s ws) (outlook (record { level = level; direction = n }) (r ∷ s ∷ ws))
-  by-direction level zero good = rising-means r s ws o h level
-  by-direction level (suc zero) good =
-      let v : Service = record { level = level; direction = 1 } in
+  by-direction : (level : ℤ) (n step : ℕ) → n ≤ mostDirection → 0 < step
+      → MeansOf (record { level = level; direction = n; step = step }) (r ∷ s ∷ ws) (endTime s ws) (outlook (record { level = level; direction = n; step = step }) (r ∷ s ∷ ws))
+  by-direction level zero step good over = rising-means r s ws o h level step over
+  by-direction level (suc zero) step good over =
+      let v : Service = record { level = level; direction = 1; step = step } in
       let run = r ∷ s ∷ ws in
-      let image = rising-means (mirroredRange r) (mirroredRange s) (mirrored ws) (ordered-mirrored run o) (HasLine-mirrored h) (negℤ level) in
+      let image = rising-means (mirroredRange r) (mirroredRange s) (mirrored ws) (ordered-mirrored run o) (HasLine-mirrored h) (negℤ level) step over in
       let from-end = subst (λ n. MeansOf (mirroredService v) (mirrored run) n (outlook (mirroredService v) (mirrored run))) (end-mirrored s ws) image in
       subst (MeansOf v run (endTime s ws)) (ap mirroredOutlook (outlook-mirrored v good run o) ∙ mirrored-twice (outlook v run))
       (means-back v good run (endTime s ws) (outlook (mirroredService v) (mirrored run)) from-end)
-  by-direction level (suc (suc n)) good = absurd (omega arith)
+  by-direction level (suc (suc n)) step good over = absurd (omega arith)
 
-  module _ (v : Service) (good : v .direction ≤ mostDirection) where
+  module _ (v : Service) (good : v .direction ≤ mostDirection) (over : 0 < v .step) where
     run-means : OutlookMeans v (r ∷ s ∷ ws) (endTime s ws) (reduced (slow r s ws)) (reduced (fast r s ws)) (someTime v (endTime s ws) (fitting (r ∷ s ∷ ws))) (allTime v (endTime s ws) (fitting (r ∷ s ∷ ws)))
-    run-means = subst (MeansOf v (r ∷ s ∷ ws) (endTime s ws)) (shown r s ws o h v) (by-direction (v .level) (v .direction) good)
+    run-means = subst (MeansOf v (r ∷ s ∷ ws) (endTime s ws)) (shown r s ws o h v) (by-direction (v .level) (v .direction) (v .step) good over)
 
     -- the outlook of a run, and what it means of all lines of the fit
     pub outlook-means : (k : Line) × (l : Line) × (some : Time) × (all : Time) × (outlook v (r ∷ s ∷ ws) ≡ lines k l some all) × OutlookMeans v (r ∷ s ∷ ws) (endTime s ws) k l some all
@@ -287,8 +296,8 @@ pub record LinesOf (v : Service) (run : List Range) (from : ℕ) (o : Outlook) :
   pub is : o ≡ lines slow fast some all
   pub means : OutlookMeans v run from slow fast some all
 
-pub run-lines : (v : Service) → v .direction ≤ mostDirection → (run : List Range) → 2 ≤ length run → Ordered run → HasLine run → LinesOf v run (lastTimeOf run) (outlook v run)
+pub run-lines : (v : Service) → v .direction ≤ mostDirection → 0 < v .step → (run : List Range) → 2 ≤ length run → Ordered run → HasLine run → LinesOf v run (lastTimeOf run) (outlook v run)
 unfolding lastTimeOf endTime
-run-lines v known [] two o h = absurd (omega arith)
-run-lines v known (r ∷ []) two o h = absurd (omega arith)
-run-lines v known (r ∷ s ∷ ws) two o h = let (k, l, x, y, e, means) = outlook-means r s ws o h v known in record { slow = k; fast = l; some = x; all = y; is = e; means = means }
+run-lines v known over [] two o h = absurd (omega arith)
+run-lines v known over (r ∷ []) two o h = absurd (omega arith)
+run-lines v known over (r ∷ s ∷ ws) two o h = let (k, l, x, y, e, means) = outlook-means r s ws o h v known over in record { slow = k; fast = l; some = x; all = y; is = e; means = means }

@@ -1,4 +1,4 @@
--- The front page: what the scope's definitions mean. Ranges are ordered, as those of every accepted trace are; p, q and d of a line are of any size, d above 0. A direction is the number 0 or 1, as every accepted one is.
+-- The front page: what the scope's definitions mean. Ranges are ordered, as those of every accepted trace are; p, q and d of a line are of any size, d above 0. A direction is the number 0 or 1 and a step is above 0, as every accepted one is.
 --
 -- The fit
 --     has-line                   `hasLine` passes exactly if some line fits each of the ranges
@@ -16,8 +16,8 @@
 --     side-above, side-below     the determinant `side` is above 0, or below 0, exactly if a line's intercept is greater, or smaller, than that of the diagonal's line of its slope
 --     corner-order-iff           so the corner order of the definitions is that of `Diagonal`
 -- The outlook of two or more ranges that have a line
---     outlook-means              its lines have the least and the greatest slope of the fit, its times are the least at which some and all lines of the fit have reached the level (RunOutlook)
--- The mirror image of a trace: level, lows and highs negated, lows and highs exchanged, the direction turned
+--     outlook-means              its lines have the least and the greatest slope of the fit, its times are the least multiples of the step at which some and all lines of the fit have reached the level (RunOutlook)
+-- The mirror image of a trace: level, lows and highs negated, lows and highs exchanged, the direction turned, the step kept
 --     segmentsOf-mirrored        its segments have the same times and counts, *some* and *all* as those of the trace; slow is the image of fast, and fast that of slow (MirroredOutlook)
 --     segments-mirrored          the segments of the image are the images of the segments (MirroredFit)
 --     corners-mirrored           the corners are the same ring, negated, begun at the corner of greatest slope (MirroredCorners)

@@ -67,7 +67,7 @@ grown-two rs r h =
 grown-outlook : (v : Service) → GoodService v → (rs : List Range) (r : Range) → 0 < length rs → Ordered (rs ++ (r ∷ [])) → HasLine (grown rs r) → LinesOf v (grown rs r) (r .time) (outlook v (grown rs r))
 unfolding lastTimeOf endTime
 grown-outlook v good rs r h o line =
-    subst (λ t. LinesOf v (grown rs r) t (outlook v (grown rs r))) (last-append (lastRun (segments rs)) r []) (run-lines v (good .direction-in) (grown rs r) (grown-two rs r h) (grown-ordered rs r o) line)
+    subst (λ t. LinesOf v (grown rs r) t (outlook v (grown rs r))) (last-append (lastRun (segments rs)) r []) (run-lines v (good .direction-in) (good .step-good .over) (grown rs r) (grown-two rs r h) (grown-ordered rs r o) line)
 
 -- ---- the effect given
 

@@ -1,4 +1,4 @@
--- Preview on a trace and on its mirror image: level, lows and highs negated, lows and highs exchanged, the direction turned, and the range to be seen likewise.
+-- Preview on a trace and on its mirror image: level, lows and highs negated, lows and highs exchanged, the direction turned, the step kept, and the range to be seen likewise.
 --
 --     preview-mirrored         of two answers: refused with the same number; or the range joins in both or begins a segment in both, and the image has the same two times and the lines of the
 --                              other negated, slow for fast (`mirroredEffect`)

@@ -4,8 +4,8 @@
 --     preview-accepted       accepted, with the effect of the range, exactly if no row holds
 --     differ-refused         on lists that differ in length refused with 10, whatever else is wrong
 --     PreviewNumber, numbers-given   the numbers that it gives are 4 to 7 and 10, and so never 8
---     direction-refused      refused with 4 for another direction than 0 and 1, on lists of one length that have room
---     full-refused           on lists of one length that are full, or longer, refused with 7, whatever the level, the direction and the ranges are
+--     service-refused        refused with 4 for a level, a direction or a step outside its span, on lists of one length that have room
+--     full-refused           on lists of one length that are full, or longer, refused with 7, whatever the level, the direction, the step and the ranges are
 --
 -- Assumes nothing.
 use mathlib.Core.Path.{_≡_, refl, ap, ap₂, _∙_}
@@ -19,19 +19,20 @@ use lib.Dec.{ltb}
 use lib.ListN.{length}
 use Rattle.integers.specs.Lists.{any}
 use Rattle.definitions.specs.Services.{Service}
-use Rattle.definitions.specs.Spans.{mostRanges, mostDirection}
+use Rattle.definitions.specs.Spans.{mostRanges}
 use Rattle.definitions.specs.Times.{Time, none, at}
 use Rattle.definitions.specs.Ranges.{Range, Lists, rangesOf}
 use Rattle.definitions.specs.Segments.{segments}
 use Rattle.definitions.specs.Results.{segmentsOf}
 use Rattle.definitions.specs.Answers.{refused, accepted, _>>=_, Row, _if_, firstRow}
-use Rattle.definitions.specs.Trial.{outside, badDirection, rangeRows, rangesRows, serviceRows, tooShort, differ, listRows, segmentRows}
+use Rattle.definitions.specs.Trial.{outside, badDirection, badStep, rangeRows, rangesRows, serviceRows, tooShort, differ, listRows, segmentRows}
 use Rattle.definitions.specs.Calls.{segmentCall}
 use Rattle.definitions.specs.Previews.{longer, effectOf, previewRows, previewCall}
 use Rattle.trial_laws.specs.Rows.{NoneHolds, FirstAt, first-row-exact, Only, only-first}
 use Rattle.trial_laws.specs.CallLaws.{told-refused, told-accepted}
 use Rattle.trial_laws.specs.RangeLists.{SameLength, same-length}
-use Rattle.trial_laws.specs.ListTrial.{other-bad, bad-refused}
+use Rattle.trial_laws.specs.ListTrial.{bad-refused}
+use Rattle.trial_laws.specs.Accepted.{GoodService, service-bad}
 use Rattle.trial_laws.specs.LongerLists.{longer-length, longer-differ, effectOn, preview-by-rows, preview-trial}
 use Rattle.preview.specs.declared.PreviewAnswer.{PreviewAnswer}
 use Rattle.preview.specs.PreviewPromise.{previewMeaning, PreviewPromise}
@@ -83,18 +84,18 @@ module _ {v : Service} {ls : Lists} {r : Range} {answer : PreviewAnswer} (promis
         none-earlier = (refl, (refl, tt));
       })
 
-  pub direction-refused : SameLength ls → length (ls .times) < mostRanges → mostDirection < v .direction → previewMeaning answer ≡ refused 4
+  pub service-refused : SameLength ls → length (ls .times) < mostRanges → ¬ GoodService v → previewMeaning answer ≡ refused 4
   unfolding _>>=_
-  direction-refused same place above =
+  service-refused same place bad =
       let few = le-ltb mostRanges (length (longer ls r .times)) (omega (arith, longer-length ls r)) in
       promise .answer-is
       ∙ preview-by-rows v ls r
-      ∙ ap (λ a. a >>= λ ok. accepted (effectOn v ls r)) (preview-trial v ls r ∙ bad-refused (longer ls r) refl (longer-differ ls r ∙ same-length ls .1 same) few (other-bad v above))
+      ∙ ap (λ a. a >>= λ ok. accepted (effectOn v ls r)) (preview-trial v ls r ∙ bad-refused (longer ls r) refl (longer-differ ls r ∙ same-length ls .1 same) few (service-bad v bad))
 
   pub numbers-given : (n : ℕ) → previewMeaning answer ≡ refused n → PreviewNumber n
   unfolding segmentRows listRows tooShort any firstRow
   numbers-given n e =
       let low : PreviewNumber 4 = (omega arith, inl (omega arith)) in
-      only-first PreviewNumber (10 if differ (longer ls r) ∷ 7 if ltb mostRanges (length (longer ls r .times)) ∷ 4 if outside (v .level) ∷ 4 if badDirection (v .direction) ∷ rangesRows none (rangesOf (longer ls r)))
-      ((omega arith, inr (omega arith)), ((omega arith, inl (omega arith)), (low, (low, ranges-numbers none (rangesOf (longer ls r))))))
+      only-first PreviewNumber (10 if differ (longer ls r) ∷ 7 if ltb mostRanges (length (longer ls r .times)) ∷ 4 if outside (v .level) ∷ 4 if badDirection (v .direction) ∷ 4 if badStep (v .step) ∷ rangesRows none (rangesOf (longer ls r)))
+      ((omega arith, inr (omega arith)), ((omega arith, inl (omega arith)), (low, (low, (low, ranges-numbers none (rangesOf (longer ls r)))))))
       (first-row-exact n (previewRows v ls r) .1 (preview-refused n .0 e))

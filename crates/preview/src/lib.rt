@@ -65,6 +65,7 @@ fn effect(v: Service, times: &[u32], lows: &[i32], highs: &[i32], r: Range) -> P
 pub fn preview(
     level: i32,
     direction: u32,
+    step: u32,
     times: &[u32],
     lows: &[i32],
     highs: &[i32],
@@ -72,9 +73,9 @@ pub fn preview(
     low: i32,
     high: i32,
 ) -> PreviewAnswer
-    ensures { λ r. ⌜ PreviewPromise (record { level = level; direction = direction }) (record { times = now (times .entry); lows = now (lows .entry); highs = now (highs .entry) }) (record { time = time; low = low; high = high }) r ⌝ }
+    ensures { λ r. ⌜ PreviewPromise (record { level = level; direction = direction; step = step }) (record { times = now (times .entry); lows = now (lows .entry); highs = now (highs .entry) }) (record { time = time; low = low; high = high }) r ⌝ }
 {
-    let outside = trial::service_outside(level, direction);
+    let outside = trial::service_outside(level, direction, step);
     let number = trial::try_longer(outside, times, lows, highs, time, low, high);
     if number != 0 {
         return PreviewAnswer::Refused(number);
@@ -82,7 +83,11 @@ pub fn preview(
     if times.len() == 0 {
         return PreviewAnswer::Begins(Outlook::Open);
     }
-    let v = Service { level, direction };
+    let v = Service {
+        level,
+        direction,
+        step,
+    };
     let r = Range { time, low, high };
     effect(v, times, lows, highs, r)
 }

@@ -12,7 +12,7 @@ use trace_testing::telling::title_of_three;
 // Reads the first n bytes of a file in which a field with tag 4, this length and this byte stands after the level.
 fn read_field(length: u16, value: u8, n: usize) {
     let mut file = [0u8; 16];
-    put_start(&mut file, 7, 20, false);
+    put_start(&mut file, 7, 20, false, 1);
     write_u32(
         &mut file,
         11,
@@ -62,7 +62,7 @@ fn early() {
 // A second time, and after a range, whether there is one before it or not.
 fn late() {
     let mut file = [0u8; 34];
-    let first = put_start(&mut file, 7, 20, true);
+    let first = put_start(&mut file, 7, 20, true, 1);
     put_direction(&mut file, 15, true);
     title(b"read, direction at 11 and", 15);
     read_alone(part(&file, 0, 19));
@@ -72,7 +72,7 @@ fn late() {
     put_direction(&mut file, 30, true);
     title(b"read, direction at 11 and", 30);
     read_alone(&file);
-    let first = put_start(&mut file, 7, 20, false);
+    let first = put_start(&mut file, 7, 20, false, 1);
     put_range(&mut file, first, 0, 10, 0, 4);
     put_direction(&mut file, 26, true);
     title(b"read, direction at", 26);

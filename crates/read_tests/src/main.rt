@@ -5,11 +5,13 @@ mod alone; // alone.rt: a file read into lists of its own
 mod changes; // changes.rt: the sample, and each change of a byte in a table
 mod directions; // directions.rt: the direction field with each fault
 mod sizes; // sizes.rt: files and lists of other lengths
+mod steps; // steps.rt: the step field with each fault
 
 fn main() {
     changes::sample();
     addresses::all();
     directions::all();
+    steps::all();
     sizes::files();
     sizes::lists();
 }

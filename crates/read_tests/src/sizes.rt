@@ -30,39 +30,42 @@ fn read_each(
 }
 
 // A small file, up to each length from `least` to below `end`.
-fn read_ends(address: u32, falling: bool, least: usize, end: usize) {
+fn read_ends(address: u32, falling: bool, step: u32, least: usize, end: usize) {
     let mut times = [1u32; READ_ROOM];
     let mut lows = [2i32; READ_ROOM];
     let mut highs = [3i32; READ_ROOM];
-    let mut file = [0u8; 46];
-    put_ends(&mut file, address, falling);
+    let mut file = [0u8; 53];
+    put_ends(&mut file, address, falling, step);
     read_each(&file, least, end, &mut times, &mut lows, &mut highs);
 }
 
 // A file with 4,097 ranges, up to each length from `least` to below `end`.
-fn read_many(address: u32, falling: bool, least: usize, end: usize) {
+fn read_many(address: u32, falling: bool, step: u32, least: usize, end: usize) {
     let mut times = [1u32; READ_ROOM];
     let mut lows = [2i32; READ_ROOM];
     let mut highs = [3i32; READ_ROOM];
     let mut file = [0u8; ONE_TOO_MANY];
-    put_many(&mut file, address, falling, 4097);
+    put_many(&mut file, address, falling, step, 4097);
     read_each(&file, least, end, &mut times, &mut lows, &mut highs);
 }
 
-// Both, with an address of one byte and of two, and falling; the large file from one byte less than one with 4,096 ranges
-// has. Up to its level a falling trace is a rising one without ranges.
+// Both, with an address of one byte and of two, falling, and with a step; the large file from one byte less than one with
+// 4,096 ranges has. Up to its level a falling trace is a rising one without ranges, and up to its direction one with a step
+// is one without.
 pub fn files() {
-    read_ends(1, false, 0, 42);
-    read_ends(256, false, 0, 43);
-    read_ends(256, true, 12, 47);
-    read_many(255, false, 61450, 61467);
-    read_many(65535, false, 61451, 61468);
-    read_many(65535, true, 61455, 61472);
+    read_ends(1, false, 1, 0, 42);
+    read_ends(256, false, 1, 0, 43);
+    read_ends(256, true, 1, 12, 47);
+    read_ends(256, true, 86400, 16, 54);
+    read_many(255, false, 1, 61450, 61467);
+    read_many(65535, false, 1, 61451, 61468);
+    read_many(65535, true, 1, 61455, 61472);
+    read_many(65535, true, 86400, 61462, 61479);
 }
 
 fn read_into(times: &mut [u32], lows: &mut [i32], highs: &mut [i32]) {
     let mut file = [0u8; 86];
-    put_sample(&mut file, false);
+    put_sample(&mut file, false, 1);
     title_of_three(b"read into", times.len(), lows.len(), highs.len());
     tell_read(&file, times, lows, highs);
 }

@@ -42,7 +42,7 @@ lists-taken t h =
     let back = ranges-of-lists rs in
     let few = le-ltb mostRanges (length (listsOf rs .times)) (omega (arith, times-long rs, h .count-in)) in
     let rows = subst (λ l. NoneHolds (rangesRows none l)) (sym back) (h .ranges-in) in
-    let passed = first-row-accepted (segmentRows (replicate rowLength segmentRoom) (t .head .service) (listsOf rs)) .1 (refl, (lists-alike rs, (few, (h .head-in .1 .0, (h .head-in .1 .1 .0, rows))))) in
+    let passed = first-row-accepted (segmentRows (replicate rowLength segmentRoom) (t .head .service) (listsOf rs)) .1 (refl, (lists-alike rs, (few, (h .head-in .1 .0, (h .head-in .1 .1 .0, (h .head-in .1 .1 .1 .0, rows)))))) in
     ap (λ a. a >>= λ ok. accepted (segmentsOf (t .head .service) (rangesOf (listsOf rs)))) passed ∙ ap (λ l. accepted (segmentsOf (t .head .service) l)) back
 
 pub report-of-lists : (bs : List ℕ) (t : Trace) → readFile bs ≡ accepted t → listsText (t .head .address) (t .head .service) (listsOf (t .ranges)) ≡ report bs

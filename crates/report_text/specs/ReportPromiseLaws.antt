@@ -109,13 +109,13 @@ module _ {file times₀ times : List ℕ} {lows₀ lows highs₀ highs : List �
       }
 
   -- so what is put for its lists is the report of the file
-  pub told-is : {known : TraceRecord} → TraceRead known → listsText (known .address) (record { level = toZ w32 (ofZ w32 (known .level)); direction = known .direction }) (firstOf (known .ranges) times lows highs) ≡ report file
+  pub told-is : {known : TraceRecord} → TraceRead known → listsText (known .address) (record { level = toZ w32 (ofZ w32 (known .level)); direction = known .direction; step = known .step }) (firstOf (known .ranges) times lows highs) ≡ report file
   unfolding recordOf
   told-is {known} h =
       let t = h .trace in
       let lists = firstOf (known .ranges) times lows highs in
-      ap (λ k. listsText (k .address) (record { level = toZ w32 (ofZ w32 (k .level)); direction = k .direction }) lists) (sym (h .known-is))
-      ∙ ap (λ z. listsText (t .head .address) (record { level = z; direction = t .head .service .direction }) lists) (toZ-ofZ (level-fits file t (h .read)))
+      ap (λ k. listsText (k .address) (record { level = toZ w32 (ofZ w32 (k .level)); direction = k .direction; step = k .step }) lists) (sym (h .known-is))
+      ∙ ap (λ z. listsText (t .head .address) (record { level = z; direction = t .head .service .direction; step = t .head .service .step }) lists) (toZ-ofZ (level-fits file t (h .read)))
       ∙ ap (listsText (t .head .address) (t .head .service)) (h .lists-are)
       ∙ report-of-lists file t (h .read)
 

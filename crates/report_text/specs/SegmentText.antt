@@ -59,7 +59,7 @@ module _ {v : Service} {ls : Lists} {old new : Columns} {n : ℕ} (promise : Seg
   lines-so-far zero h = refl
   lines-so-far (suc k) h =
       let s = getD ss k (segmentOf v []) in
-      let line : segmentFrom (rowAt new k) ≡ s = ap segmentFrom (row-at promise k (omega arith)) ∙ rows-back v (taken-good promise .direction-in) rs (ordered promise) k in
+      let line : segmentFrom (rowAt new k) ≡ s = ap segmentFrom (row-at promise k (omega arith)) ∙ rows-back v (taken-good promise) rs (ordered promise) k in
       let long : 1 + length (take k ss) ≡ suc k = omega (arith, length-take-le k ss (omega (arith, count-is promise, h))) in
       ap₂ (λ front t. front ++ segmentLine (suc k) t) (lines-so-far k (omega arith)) line
       ∙ ap (λ m. segmentLines 1 (take k ss) ++ segmentLine m s) (sym long)

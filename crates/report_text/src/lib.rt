@@ -38,6 +38,7 @@ pub fn report(file: &[u8], text: &mut [u8]) -> ReportAnswer
                 known.address,
                 known.level,
                 known.direction,
+                known.step,
                 &times[..n],
                 &lows[..n],
                 &highs[..n],

@@ -107,12 +107,13 @@ pub fn put_trace(
     address: u32,
     level: i32,
     direction: u32,
+    step: u32,
     times: &[u32],
     lows: &[i32],
     highs: &[i32],
 ) -> usize
     requires { ⌜ reportRoom ≤ length (now text) ⌝ }
-    ensures { λ r. ⌜ Put 0 (listsText address (record { level = level; direction = direction }) (record { times = now (times .entry); lows = now (lows .entry); highs = now (highs .entry) })) (now (text .entry)) r (now (text .exit)) ⌝ }
+    ensures { λ r. ⌜ Put 0 (listsText address (record { level = level; direction = direction; step = step }) (record { times = now (times .entry); lows = now (lows .entry); highs = now (highs .entry) })) (now (text .entry)) r (now (text .exit)) ⌝ }
 {
     let mut first_times = [0u32; SEGMENT_ROOM];
     let mut last_times = [0u32; SEGMENT_ROOM];
@@ -128,6 +129,7 @@ pub fn put_trace(
     let answer = segment(
         level,
         direction,
+        step,
         times,
         lows,
         highs,

@@ -10,6 +10,7 @@ pub fn write_then_read(
     address: u32,
     level: i32,
     direction: u32,
+    step: u32,
     times: &[u32],
     lows: &[i32],
     highs: &[i32],
@@ -18,9 +19,9 @@ pub fn write_then_read(
     lows_back: &mut [i32],
     highs_back: &mut [i32],
 ) -> ReadAnswer
-    ensures { λ r. ⌜ WriteReadPromise (record { address = address; service = record { level = level; direction = direction } }) (record { times = now (times .entry); lows = now (lows .entry); highs = now (highs .entry) }) (now (file .entry)) (now («times_back» .entry)) (now («lows_back» .entry)) (now («highs_back» .entry)) (now (file .exit)) (now («times_back» .exit)) (now («lows_back» .exit)) (now («highs_back» .exit)) r ⌝ }
+    ensures { λ r. ⌜ WriteReadPromise (record { address = address; service = record { level = level; direction = direction; step = step } }) (record { times = now (times .entry); lows = now (lows .entry); highs = now (highs .entry) }) (now (file .entry)) (now («times_back» .entry)) (now («lows_back» .entry)) (now («highs_back» .entry)) (now (file .exit)) (now («times_back» .exit)) (now («lows_back» .exit)) (now («highs_back» .exit)) r ⌝ }
 {
-    let written = write(address, level, direction, times, lows, highs, file);
+    let written = write(address, level, direction, step, times, lows, highs, file);
     match written {
         WriteAnswer::Refused(number) => ReadAnswer::Refused(number),
         WriteAnswer::Accepted(n) => read(&file[..n], times_back, lows_back, highs_back),
@@ -46,6 +47,7 @@ pub fn read_then_write(
                 known.address,
                 known.level,
                 known.direction,
+                known.step,
                 &times[..n],
                 &lows[..n],
                 &highs[..n],

@@ -111,7 +111,15 @@ fn see_all(
 
 // Calls Segment, and writes all there is to its answer. The slices are as long as they have to be, but for one of
 // them, counted from 0, that is one too short; from 11 on, none is.
-pub fn tell(short: usize, level: i32, direction: u32, times: &[u32], lows: &[i32], highs: &[i32]) {
+pub fn tell(
+    short: usize,
+    level: i32,
+    direction: u32,
+    step: u32,
+    times: &[u32],
+    lows: &[i32],
+    highs: &[i32],
+) {
     let mut first_times = [OLD; SEGMENT_ROOM];
     let mut last_times = [OLD; SEGMENT_ROOM];
     let mut counts = [OLD; SEGMENT_ROOM];
@@ -126,6 +134,7 @@ pub fn tell(short: usize, level: i32, direction: u32, times: &[u32], lows: &[i32
     let answer = segment(
         level,
         direction,
+        step,
         times,
         lows,
         highs,

@@ -1,5 +1,6 @@
-// Trials from text. A line is a remark, which begins with `#`, or the level, the slice that is one too short and the
-// direction, and the three lists. Without a second number no slice is too short, without a third the trace rises.
+// Trials from text. A line is a remark, which begins with `#`, or the level, the slice that is one too short, the
+// direction and the step, and the three lists. Without a second number no slice is too short, without a third the
+// trace rises, without a fourth the step is 1.
 use crate::answers::tell;
 use fields::numbers::signed;
 use fields::parts::byte_at;
@@ -12,7 +13,7 @@ use testing::trials::place;
 use testing::trials::read_line;
 
 fn trial(line: &[u8]) {
-    let mut params = [0u32, 11, 0];
+    let mut params = [0u32, 11, 0, 1];
     let mut times = [0u32; 64];
     let mut lows = [0i32; 64];
     let mut highs = [0i32; 64];
@@ -21,6 +22,7 @@ fn trial(line: &[u8]) {
         place(params[1]),
         signed(params[0]),
         params[2],
+        params[3],
         first_times(&times, r.times),
         first_values(&lows, r.lows),
         first_values(&highs, r.highs),

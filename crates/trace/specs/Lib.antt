@@ -4,4 +4,4 @@ pub mod WritingAnswers
 pub mod BothWays
 pub mod Refusals
 pub mod Addresses
-pub mod Directions
+pub mod Services

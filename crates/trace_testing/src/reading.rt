@@ -14,6 +14,7 @@ fn tell_answer(answer: ReadAnswer) {
             number(record.address as u64);
             signed_number(record.level);
             number(record.direction as u64);
+            number(record.step as u64);
             number(record.ranges as u64);
         }
         ReadAnswer::Refused(n) => {

@@ -22,7 +22,7 @@ use Rattle.definitions.specs.Services.{Service}
 use Rattle.definitions.specs.Times.{Time, none, at}
 use Rattle.definitions.specs.Ranges.{Range, Lists, zipRanges, rangesOf}
 use Rattle.definitions.specs.Answers.{Row, _if_, _>>=_, firstRow}
-use Rattle.definitions.specs.Trial.{outside, badDirection, notAbove, rangeRows, rangesRows, tooShort, differ, segmentRows, latestRows, cornerRows}
+use Rattle.definitions.specs.Trial.{outside, badDirection, badStep, notAbove, rangeRows, rangesRows, tooShort, differ, segmentRows, latestRows, cornerRows}
 use Rattle.definitions.specs.Previews.{longer}
 use Rattle.definitions.specs.Mirrors.{mirroredRange, mirroredLists, opposite, mirroredService}
 use Rattle.trial_laws.specs.Rows.{first-row-append, first-row-rest}
@@ -68,7 +68,7 @@ direction-mirrored (suc zero) = refl
 direction-mirrored (suc (suc n)) = refl
 
 pub service-mirrored : (v : Service) → badService (mirroredService v) ≡ badService v
-service-mirrored v = ap₂ (λ a b. a || b) (outside-mirrored (v .level)) (direction-mirrored (v .direction))
+service-mirrored v = ap₂ (λ a b. a || (b || badStep (v .step))) (outside-mirrored (v .level)) (direction-mirrored (v .direction))
 
 -- ---- rows
 

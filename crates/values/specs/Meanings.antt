@@ -22,7 +22,7 @@ abbrev pub lineOf : Line → LineTerm
 lineOf l = record { p = l .p; q = l .q; d = l .d }
 
 abbrev pub serviceOf : Service → ServiceTerm
-serviceOf v = record { level = v .level; direction = v .direction }
+serviceOf v = record { level = v .level; direction = v .direction; step = v .step }
 
 unfoldable pub sideOf : Side → SideTerm
 sideOf Below = below

@@ -1,4 +1,4 @@
--- A segment is told by its row: `segmentFrom` turns `numbersOf` round, for every segment of a trace whose direction is 0 or 1.
+-- A segment is told by its row: `segmentFrom` turns `numbersOf` round, for every segment of a trace and a service that is not refused.
 --
 --     Telling n o            of an outlook o of n ranges: open has fewer than two, lines have two or more, and a time is in its span
 --     time-back              a time from its number
@@ -15,7 +15,7 @@ use borrow.Author.Tests.{lt-ltb, le-ltb}
 use lib.ListN.{length, getD}
 use Rattle.integers.specs.Least.{IsLeast, least-at}
 use Rattle.definitions.specs.Services.{Service}
-use Rattle.definitions.specs.Spans.{mostTime, noTime, mostDirection}
+use Rattle.definitions.specs.Spans.{mostTime, noTime}
 use Rattle.definitions.specs.Times.{Time}
 use Rattle.definitions.specs.Ranges.{Range}
 use Rattle.definitions.specs.Fit.{HasLine, Ordered}
@@ -28,6 +28,7 @@ use Rattle.splits.specs.Segments.{segmentsOf-at}
 use Rattle.lines.specs.HasLine.{no-ranges}
 use Rattle.lines.specs.RunOutlook.{outlook-means}
 use Rattle.lines.specs.Theorems.{segments-split}
+use Rattle.trial_laws.specs.Accepted.{GoodService}
 use Rattle.values.specs.Rows.{timeFrom, outlookFrom, segmentFrom}
 
 -- ---- times
@@ -63,21 +64,21 @@ row-back s h = λ i. record { firstTime = s .firstTime; lastTime = s .lastTime; 
 
 -- ---- the segments of a trace
 
-run-telling : (v : Service) → v .direction ≤ mostDirection → (run : List Range) → Ordered run → HasLine run → Telling (length run) (outlook v run)
+run-telling : (v : Service) → GoodService v → (run : List Range) → Ordered run → HasLine run → Telling (length run) (outlook v run)
 unfolding outlook
-run-telling v known [] o h = omega arith
-run-telling v known (r ∷ []) o h = omega arith
-run-telling v known (r ∷ s ∷ rs) o h =
-    let (k, l, x, y, e, means) = outlook-means r s rs o h v known in
+run-telling v good [] o h = omega arith
+run-telling v good (r ∷ []) o h = omega arith
+run-telling v good (r ∷ s ∷ rs) o h =
+    let (k, l, x, y, e, means) = outlook-means r s rs o h v (good .direction-in) (good .step-good .over) in
     subst (Telling (length (r ∷ s ∷ rs))) (sym e) (omega arith, least-in x (means .some-is), least-in y (means .all-is))
 
-pub run-back : (v : Service) → v .direction ≤ mostDirection → (run : List Range) → Ordered run → HasLine run → segmentFrom (numbersOf (segmentOf v run)) ≡ segmentOf v run
+pub run-back : (v : Service) → GoodService v → (run : List Range) → Ordered run → HasLine run → segmentFrom (numbersOf (segmentOf v run)) ≡ segmentOf v run
 unfolding segmentOf
-run-back v known run o h = row-back (segmentOf v run) (by run o h)
+run-back v good run o h = row-back (segmentOf v run) (by run o h)
   where
     by : (run : List Range) → Ordered run → HasLine run → Telling (segmentOf v run .count) (segmentOf v run .outlook)
     by [] o h = omega arith
-    by (r ∷ rs) o h = run-telling v known (r ∷ rs) o h
+    by (r ∷ rs) o h = run-telling v good (r ∷ rs) o h
 
 good-line : (run : List Range) → GoodRun HasLine run → HasLine run
 good-line [] g = no-ranges
@@ -88,8 +89,8 @@ line-at [] g j = no-ranges
 line-at (run ∷ runs) g zero = good-line run (g .0)
 line-at (run ∷ runs) g (suc j) = line-at runs (g .1) j
 
-pub rows-back : (v : Service) → v .direction ≤ mostDirection → (rs : List Range) → Ordered rs → (j : ℕ) → let s = getD (segmentsOf v rs) j (segmentOf v []) in segmentFrom (numbersOf s) ≡ s
-rows-back v known rs o j =
+pub rows-back : (v : Service) → GoodService v → (rs : List Range) → Ordered rs → (j : ℕ) → let s = getD (segmentsOf v rs) j (segmentOf v []) in segmentFrom (numbersOf s) ≡ s
+rows-back v good rs o j =
     let split = segments-split rs o in
     subst (λ s. segmentFrom (numbersOf s) ≡ s) (sym (segmentsOf-at v rs j))
-    (run-back v known (getD (segments rs) j []) (ordered-at (segments rs) (subst Ordered (sym (split .whole)) o) j) (line-at (segments rs) (split .each) j))
+    (run-back v good (getD (segments rs) j []) (ordered-at (segments rs) (subst Ordered (sym (split .whole)) o) j) (line-at (segments rs) (split .each) j))

@@ -12,10 +12,11 @@ pub struct Line {
     pub d: i64,
 }
 
-// What an outlook looks for: the level, and the direction from which it is reached, 0 for rising and 1 for falling.
+// What an outlook looks for: the level, the direction from which it is reached, 0 for rising and 1 for falling, and the step, at whose multiples the line is asked.
 pub struct Service {
     pub level: i32,
     pub direction: u32,
+    pub step: u32,
 }
 
 // Where a line is against a level at a time.

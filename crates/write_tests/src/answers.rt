@@ -27,13 +27,14 @@ pub fn tell_write(
     address: u32,
     level: i32,
     direction: u32,
+    step: u32,
     times: &[u32],
     lows: &[i32],
     highs: &[i32],
     file: &mut [u8],
 ) {
     let before = bytes_digest(file);
-    tell_answer(write(address, level, direction, times, lows, highs, file));
+    tell_answer(write(address, level, direction, step, times, lows, highs, file));
     contents(before, bytes_digest(file));
 }
 

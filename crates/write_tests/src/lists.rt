@@ -26,24 +26,27 @@ fn write_most(made: &[u8], file: &mut [u8]) {
 
 pub fn most(file: &mut [u8]) {
     let mut made = [0u8; WRITE_ROOM];
-    put_many(&mut made, 65535, true, 4096);
+    put_many(&mut made, 65535, true, 86400, 4096);
     write_most(&made, file);
     read_back(file, &made);
 }
 
-// ---- the sample's lists, cut at different lengths, and falling
+// ---- the sample's lists, cut at different lengths, falling, and with a step
 
-fn write_first(direction: u32, a: usize, b: usize, c: usize, file: &mut [u8]) {
+fn write_first(direction: u32, step: u32, a: usize, b: usize, c: usize, file: &mut [u8]) {
     let times = [10u32, 20, 30, 40, 50];
     let lows = [0i32, 4, 10, 9, 9];
     let highs = [4i32, 8, 14, 11, 12];
     say(b"write direction");
     number(direction as u64);
+    say(b" step");
+    number(step as u64);
     title_of_three(b" lists", a, b, c);
     tell_write(
         7,
         20,
         direction,
+        step,
         first_times(&times, a),
         first_values(&lows, b),
         first_values(&highs, c),
@@ -52,22 +55,38 @@ fn write_first(direction: u32, a: usize, b: usize, c: usize, file: &mut [u8]) {
 }
 
 pub fn cut(file: &mut [u8]) {
-    write_first(0, 0, 0, 0, file);
-    write_first(0, 4, 5, 5, file);
-    write_first(0, 5, 4, 5, file);
-    write_first(0, 5, 5, 4, file);
-    write_first(0, 5, 5, 5, file);
+    write_first(0, 1, 0, 0, 0, file);
+    write_first(0, 1, 4, 5, 5, file);
+    write_first(0, 1, 5, 4, 5, file);
+    write_first(0, 1, 5, 5, 4, file);
+    write_first(0, 1, 5, 5, 5, file);
     let mut sample = [0u8; 86];
-    put_sample(&mut sample, false);
+    put_sample(&mut sample, false, 1);
     read_back(part(file, 0, 86), &sample);
 }
 
 pub fn falling(file: &mut [u8]) {
-    write_first(1, 0, 0, 0, file);
-    write_first(1, 5, 5, 5, file);
+    write_first(1, 1, 0, 0, 0, file);
+    write_first(1, 1, 5, 5, 5, file);
     let mut sample = [0u8; 90];
-    put_sample(&mut sample, true);
+    put_sample(&mut sample, true, 1);
     read_back(part(file, 0, 90), &sample);
+}
+
+pub fn stepped(file: &mut [u8]) {
+    write_first(0, 25, 0, 0, 0, file);
+    write_first(0, 25, 5, 5, 5, file);
+    let mut sample = [0u8; 93];
+    put_sample(&mut sample, false, 25);
+    read_back(part(file, 0, 93), &sample);
+}
+
+// With both fields that may be left out.
+pub fn falling_stepped(file: &mut [u8]) {
+    write_first(1, 25, 5, 5, 5, file);
+    let mut sample = [0u8; 97];
+    put_sample(&mut sample, true, 25);
+    read_back(part(file, 0, 97), &sample);
 }
 
 // ---- slices of other lengths
@@ -81,6 +100,7 @@ fn write_zeros(a: usize, b: usize, file: &mut [u8]) {
         1,
         0,
         0,
+        1,
         first_times(&times, a),
         first_values(&values, a),
         first_values(&values, b),

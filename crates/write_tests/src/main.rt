@@ -13,5 +13,7 @@ fn main() {
     values::all(&mut file);
     lists::cut(&mut file);
     lists::falling(&mut file);
+    lists::stepped(&mut file);
+    lists::falling_stepped(&mut file);
     lists::lengths();
 }

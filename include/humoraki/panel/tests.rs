@@ -36,7 +36,7 @@ fn refused(panel: &Panel, (address, time, low, high): (u32, u32, i32, i32), numb
 /// That both calls turn the panel down with this number, whatever else is wrong.
 fn refused_whole(panel: &Panel, number: u8) {
     refused(panel, (8, 20, 5, i32::MAX), number);
-    assert_eq!(panel.trace(8, 20, Rising), Err(number));
+    assert_eq!(panel.trace(8, 20, Rising, 1), Err(number));
 }
 
 #[test]
@@ -45,23 +45,23 @@ fn ranges_come_back_head_by_head() {
     assert_eq!(panel.entries(), [Entry { address: 7, held: 2 }, Entry { address: 9, held: 1 }]);
     let (times, lows, highs) = (vec![10, 20], vec![0, 0], vec![4, 4]);
     assert_eq!(
-        panel.trace(7, 20, Falling),
-        Ok(Trace { address: 7, level: 20, direction: Falling, times, lows, highs })
+        panel.trace(7, 20, Falling, 60),
+        Ok(Trace { address: 7, level: 20, direction: Falling, step: 60, times, lows, highs })
     );
-    assert_eq!(panel.trace(9, 20, Rising).map(|trace| trace.times), Ok(vec![30]));
-    assert_eq!(panel.trace(8, 20, Rising), Err(12));
+    assert_eq!(panel.trace(9, 20, Rising, 1).map(|trace| trace.times), Ok(vec![30]));
+    assert_eq!(panel.trace(8, 20, Rising, 1), Err(12));
 }
 
 #[test]
 fn a_head_has_segments() {
-    let segments = segment(&example().trace(7, 20, Rising).unwrap()).unwrap();
+    let segments = segment(&example().trace(7, 20, Rising, 1).unwrap()).unwrap();
     assert_eq!((segments.len(), segments[0].ranges), (1, 2));
     assert!(matches!(segments[0].outlook, Outlook::Lines { some: Some(60), all: None, .. }));
 }
 
 #[test]
 fn both_directions_are_on_one_panel() {
-    let segments = segment(&example().trace(7, -16, Falling).unwrap()).unwrap();
+    let segments = segment(&example().trace(7, -16, Falling, 1).unwrap()).unwrap();
     assert_eq!((segments.len(), segments[0].ranges), (1, 2));
     assert!(matches!(segments[0].outlook, Outlook::Lines { some: Some(60), all: None, .. }));
 }

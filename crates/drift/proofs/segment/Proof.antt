@@ -32,7 +32,7 @@ use Rattle.drift.proofs.segment.Tie as tie
 -- ---- at entry
 
 abbrev service : tie.Start → Service
-service c = record { level = c .args .level; direction = c .args .direction }
+service c = record { level = c .args .level; direction = c .args .direction; step = c .args .step }
 
 abbrev level : tie.Start → ℤ
 level c = c .args .level
@@ -87,7 +87,7 @@ module _ (c : tie.After-try-lists) where
   short-is = short-tested segmentRoom (old entry) (c .before .before .before .before .three-short .ensures) (c .before .before .before .three-short2 .ensures) (c .before .before .three-short3 .ensures)
 
   outside-is : c .before .service-outside .result ≡ badService (service entry)
-  outside-is = c .before .service-outside .ensures ∙ ap (λ z. badService (record { level = z; direction = service entry .direction })) (level-read entry)
+  outside-is = c .before .service-outside .ensures ∙ ap (λ z. badService (record { level = z; direction = service entry .direction; step = service entry .step })) (level-read entry)
 
   abbrev number : ℕ
   number = c .try-lists .result
@@ -122,7 +122,7 @@ fill-requires : tie.Need-fill-requires
 fill-requires c κs =
     let t = c .before .before .before .before .before .before .before .before .before .before .before .before in
     let s = entry t in
-    subst (λ l. FillReady (record { level = l; direction = service s .direction }) (lists s) (old s)) (sym (level-read s)) (ready t (c .before .before .before .before .before .before .before .before .before .before .before .if1 .left))
+    subst (λ l. FillReady (record { level = l; direction = service s .direction; step = service s .step }) (lists s) (old s)) (sym (level-read s)) (ready t (c .before .before .before .before .before .before .before .before .before .before .before .if1 .left))
 
 -- ---- where the slices are filled
 
@@ -171,7 +171,7 @@ returns-2 c =
     let filling = f .fill in
     let new = columns (filling .last .1 .1 .1 .1 .0) (filling .last .1 .1 .1 .1 .1 .0) (filling .last .1 .1 .1 .1 .1 .1 .0) (filling .last .1 .1 .1 .1 .1 .1 .1 .0) (filling .last .1 .1 .1 .1 .1 .1 .1 .1 .0) (filling .last .1 .1 .1 .1 .1 .1 .1 .1 .1 .0) (filling .last .1 .1 .1 .1 .1 .1 .1 .1 .1 .1 .0) (filling .last .1 .1 .1 .1 .1 .1 .1 .1 .1 .1 .1 .0) (filling .last .1 .1 .1 .1 .1 .1 .1 .1 .1 .1 .1 .1 .0) (filling .last .1 .1 .1 .1 .1 .1 .1 .1 .1 .1 .1 .1 .1 .0) (filling .last .1 .1 .1 .1 .1 .1 .1 .1 .1 .1 .1 .1 .1 .1 .0) in
     promise-accepted (service s) (lists s) (filling .result) (none-holds t (f .before .before .before .before .before .before .before .before .before .before .before .before .if1 .left))
-    (subst (λ l. AllStored (filling .result) (segmentsOf (record { level = l; direction = service s .direction }) (rangesOf (lists s))) (old s) new) (level-read s) (filling .ensures))
+    (subst (λ l. AllStored (filling .result) (segmentsOf (record { level = l; direction = service s .direction; step = service s .step }) (rangesOf (lists s))) (old s) new) (level-read s) (filling .ensures))
 
 pub segment-spec : {M : Type 1} → statement M
 segment-spec =

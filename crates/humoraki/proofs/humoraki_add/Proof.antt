@@ -51,10 +51,10 @@ use Rattle.panel.proofs.add.Symbol.{name as #below}
 use Rattle.panel.proofs.add.Met as below-thm
 use Rattle.humoraki.specs.PromiseLaws.{after-add}
 use Rattle.panel.proofs.PassedOn.{passed-on, goes-on, call-told}
-use Rattle.humoraki.proofs.add_number as number
-use Rattle.humoraki.proofs.add_number.Symbol as number-def
-use Rattle.humoraki.proofs.add_number.Symbol.{name as #number}
-use Rattle.humoraki.proofs.add_number.Met as number-thm
+use Rattle.answer_numbers.proofs.add_number as number
+use Rattle.answer_numbers.proofs.add_number.Symbol as number-def
+use Rattle.answer_numbers.proofs.add_number.Symbol.{name as #number}
+use Rattle.answer_numbers.proofs.add_number.Met as number-thm
 use Rattle.humoraki.proofs.humoraki_add.Key.{name as #add}
 use Rattle.humoraki.proofs.humoraki_add as add
 use Rattle.humoraki.proofs.humoraki_add.Statement as stated
@@ -151,7 +151,7 @@ humoraki-add-spec 𝓤 H 𝓜 𝓖 𝓡 =
     let W = givenOf 𝓤 H 𝓜 𝓖 in
     let 𝓣 = tables 𝓤 H 𝓜 𝓡 code.env in
     let known-add = cited 𝓤 H (Add 𝓤 H A (𝓜 .mem) (𝓡 .run)) 𝓜 𝓡 code.env #below below-def.routine code.calls-panel·add (below-thm.met 𝓤 H 𝓜 𝓖 𝓡) in
-    let known-number = cited 𝓤 H (Numbered 𝓤 H A (𝓜 .mem) (𝓡 .run)) 𝓜 𝓡 code.env #number number-def.routine code.calls-humoraki·add-number (number-thm.met 𝓤 H 𝓜 𝓖 𝓡) in
+    let known-number = cited 𝓤 H (Numbered 𝓤 H A (𝓜 .mem) (𝓡 .run)) 𝓜 𝓡 code.env #number number-def.routine code.calls-answer-numbers·add-number (number-thm.met 𝓤 H 𝓜 𝓖 𝓡) in
     proved 𝓤 H 𝓜 𝓖 𝓡 code.env add.ended stayed (add.clauses 𝓤 H A (𝓜 .mem) (𝓡 .run)) #add code.function (code.unfolded 𝓤 H 𝓜 𝓡) (goes-on 𝓤 H A W 5 (add.ended .signature .params) (add.ended .kept))
     (λ κs. (slice-vals, (slice-vals, (slice-vals, (slice-vals, (slice-vals, (uint-vals w32, (uint-vals w32, (sint-vals w32, (sint-vals w32, tt))))))))))
     (λ κs. (mut-slice-tells (named 0) (κs .0) Row, (mut-slice-tells (named 1) (κs .1 .0) u32, (mut-slice-tells (named 2) (κs .1 .1 .0) u32, (mut-slice-tells (named 3) (κs .1 .1 .1 .0) i32, (mut-slice-tells (named 4) (κs .1 .1 .1 .1 .0) i32, (uint-tells w32, (uint-tells w32, (sint-tells w32, (sint-tells w32, tt))))))))))

@@ -1,25 +1,20 @@
--- `humoraki::humoraki_corners` meets its contract: the call below fills the slices, and its answer is given as numbers. Assumes nothing.
+-- `humoraki::humoraki_corners` meets its contract: the call below fills the slices, and its answer is told as numbers. Assumes nothing.
 use Prim.Native.Nat.{ℕ}
-use mathlib.Core.Path.{ap}
-use borrow.Author.Needs.{needs}
 use Rattle.definitions.specs.Ranges.{Lists}
-use Rattle.drift.specs.CornersPromise.{cornersMeaning}
-use Rattle.humoraki.specs.Promises.{Counts, CornersLent, cornerNumber, AfterCorners}
-use Rattle.humoraki.specs.PromiseLaws.{counts-accepted, counts-refused, after-corners}
+use Rattle.drift.specs.CornersPromise.{CornersPromise}
+use Rattle.humoraki.specs.Promises.{CornersLent}
+use Rattle.humoraki.specs.PromiseLaws.{after-corners}
 use Rattle.humoraki.proofs.humoraki_corners.Statement.{statement}
 use Rattle.humoraki.proofs.humoraki_corners.Tie as tie
 
 corners-requires : tie.Need-corners-requires
 corners-requires c κs = tt
 
-enum-known-answer : tie.Need-enum-known-answer
-enum-known-answer c = search needs
+tell-corners-requires : tie.Need-tell-corners-requires
+tell-corners-requires c κs = tt
 
-enum-told : tie.Need-enum-told
-enum-told c = search needs
-
-enum-known-answer-2 : tie.Need-enum-known-answer-2
-enum-known-answer-2 c = search needs
+abbrev called : tie.After-tell-corners → tie.After-corners
+called c = c .before .before .before .before .before
 
 abbrev entry : tie.After-corners → tie.Start
 entry c = c .before .before .before .before .before
@@ -34,76 +29,22 @@ lent c = record { ps = c .args .ps .now; qs = c .args .qs .now; ds = c .args .ds
 abbrev left : tie.After-corners → ℕ → CornersLent
 left c count = record { ps = c .corners .last .1 .1 .1 .1 .0; qs = c .corners .last .1 .1 .1 .1 .1 .0; ds = c .corners .last .1 .1 .1 .1 .1 .1 .0; count = count }
 
-abbrev corners-at : tie.After-known-told → tie.After-corners
-corners-at c = c .before .before .before .before .before .before
-
-abbrev open-at : tie.After-enum-told → tie.After-corners
-open-at c = c .before .before .before .before .before
-
-abbrev refused-at : tie.After-known-told2 → tie.After-corners
-refused-at c = c .before .before .before .before .before .before
-
--- the promise, from the count and the number that the answer is given as
-after : (c : tie.After-corners) {count number : ℕ} → Counts (cornersMeaning (c .corners .result)) cornerNumber (lent (entry c) .count) count number
-    → AfterCorners (entry c .args .k) (lists (entry c)) (lent (entry c)) (left c count) number
-after c counts = after-corners (entry c .args .k) (lists (entry c)) (lent (entry c)) (left c _) (c .corners .ensures) counts
+promise : (c : tie.After-corners) → let old = lent (entry c) in let new = left c (old .count) in CornersPromise (entry c .args .k) (lists (entry c)) (old .ps) (old .qs) (old .ds) (new .ps) (new .qs) (new .ds) (c .corners .result)
+promise c = c .corners .ensures
 
 same-length : tie.Need-same-length
-same-length c = corners-at c .corners .kept .1 .1 .1 .1 .0
+same-length c = called c .corners .kept .1 .1 .1 .1 .0
 
 same-length-2 : tie.Need-same-length-2
-same-length-2 c = corners-at c .corners .kept .1 .1 .1 .1 .1 .0
+same-length-2 c = called c .corners .kept .1 .1 .1 .1 .1 .0
 
 same-length-3 : tie.Need-same-length-3
-same-length-3 c = corners-at c .corners .kept .1 .1 .1 .1 .1 .1 .0
+same-length-3 c = called c .corners .kept .1 .1 .1 .1 .1 .1 .0
 
 returns : tie.Need-returns
-unfolding cornersMeaning cornerNumber
-returns c = after (corners-at c) (counts-accepted (ap cornersMeaning (c .before .answer .given .1)) cornerNumber (lent (entry (corners-at c)) .count))
-
-same-length-4 : tie.Need-same-length-4
-same-length-4 c = open-at c .corners .kept .1 .1 .1 .1 .0
-
-same-length-5 : tie.Need-same-length-5
-same-length-5 c = open-at c .corners .kept .1 .1 .1 .1 .1 .0
-
-same-length-6 : tie.Need-same-length-6
-same-length-6 c = open-at c .corners .kept .1 .1 .1 .1 .1 .1 .0
-
-returns-2 : tie.Need-returns-2
-unfolding cornersMeaning cornerNumber
-returns-2 c = after (open-at c) (counts-accepted (ap cornersMeaning (c .enum-told .given .1)) cornerNumber (lent (entry (open-at c)) .count))
-
-same-length-7 : tie.Need-same-length-7
-same-length-7 c = refused-at c .corners .kept .1 .1 .1 .1 .0
-
-same-length-8 : tie.Need-same-length-8
-same-length-8 c = refused-at c .corners .kept .1 .1 .1 .1 .1 .0
-
-same-length-9 : tie.Need-same-length-9
-same-length-9 c = refused-at c .corners .kept .1 .1 .1 .1 .1 .1 .0
-
-returns-3 : tie.Need-returns-3
-unfolding cornersMeaning
-returns-3 c = after (refused-at c) (counts-refused (ap cornersMeaning (c .before .answer2 .given .1)) cornerNumber (lent (entry (refused-at c)) .count))
+returns c =
+    let start = entry (called c) in
+    after-corners (start .args .k) (lists start) (lent start) (left (called c) (c .tell-corners .last .1 .0)) (promise (called c)) (c .tell-corners .ensures)
 
 pub humoraki-corners-spec : {M : Type 1} → statement M
-humoraki-corners-spec =
-    tie.close
-    (tie.spec
-    corners-requires
-    enum-known-answer
-    enum-told
-    enum-known-answer-2
-    same-length
-    same-length-2
-    same-length-3
-    returns
-    same-length-4
-    same-length-5
-    same-length-6
-    returns-2
-    same-length-7
-    same-length-8
-    same-length-9
-    returns-3)
+humoraki-corners-spec = tie.close (tie.spec corners-requires tell-corners-requires same-length same-length-2 same-length-3 returns)

@@ -1,4 +1,4 @@
--- Proof of `humoraki::humoraki_head_ranges`, statement by statement: `panel::head_ranges` and `tell_count`, each by its contract alone.
+-- Proof of `humoraki::humoraki_head_ranges`, statement by statement: `panel::head_ranges` and `tell_head_ranges`, each by its contract alone.
 -- Assumes nothing.
 use Prim.Native.Nat.{ℕ}
 use mathlib.Core.Path.{refl}
@@ -47,13 +47,13 @@ use Rattle.panel.proofs.head_ranges as below
 use Rattle.panel.proofs.head_ranges.Symbol as below-def
 use Rattle.panel.proofs.head_ranges.Symbol.{name as #below}
 use Rattle.panel.proofs.head_ranges.Met as below-thm
-use Rattle.humoraki.specs.Promises.{Counts}
+use Rattle.answer_numbers.specs.Told.{Counts}
 use Rattle.humoraki.specs.PromiseLaws.{after-head-ranges}
 use Rattle.panel.proofs.PassedOn.{passed-on, goes-on, call-told}
-use Rattle.humoraki.proofs.tell_count as tell
-use Rattle.humoraki.proofs.tell_count.Symbol as tell-def
-use Rattle.humoraki.proofs.tell_count.Symbol.{name as #tell}
-use Rattle.humoraki.proofs.tell_count.Met as tell-thm
+use Rattle.answer_numbers.proofs.tell_head_ranges as tell
+use Rattle.answer_numbers.proofs.tell_head_ranges.Symbol as tell-def
+use Rattle.answer_numbers.proofs.tell_head_ranges.Symbol.{name as #tell}
+use Rattle.answer_numbers.proofs.tell_head_ranges.Met as tell-thm
 use Rattle.humoraki.proofs.humoraki_head_ranges.Key.{name as #head-ranges}
 use Rattle.humoraki.proofs.humoraki_head_ranges as head-ranges
 use Rattle.humoraki.proofs.humoraki_head_ranges.Statement as stated
@@ -66,8 +66,8 @@ module _ {M : Type 1} (𝓤 : URA M) (H : Heap 𝓤) (A : Atoms 𝓤) (mem : Mem
   abbrev HeadRanges : Contract 𝓤
   HeadRanges = tripleOf 𝓤 H A below.signature (below.spec 𝓤 H A mem run)
 
-  abbrev TellCount : Contract 𝓤
-  TellCount = tripleOf 𝓤 H A tell.signature (tell.spec 𝓤 H A mem run)
+  abbrev TellHeadRanges : Contract 𝓤
+  TellHeadRanges = tripleOf 𝓤 H A tell.signature (tell.spec 𝓤 H A mem run)
 
 module _ {M : Type 1} (𝓤 : URA M) (H : Heap 𝓤) (A : Atoms 𝓤) (W : Given 𝓤 H A) (mem : Memory → SProp 𝓤) (run : Routine → Fun 𝓤) (κ₀ κ₁ κ₂ κ₃ κ₄ κ₅ κ₆ κ₇ κ₈ : Lft) (q₀ q₁ q₂ q₃ q₄ q₅ q₆ q₇ q₈ : Share) (e : RefT (List Entry)) (a t : RefT (List ℕ)) (u v : RefT (List ℤ)) (address : ℕ) (x : RefT (List ℕ)) (y z : RefT (List ℤ)) (count : RefT ℕ) where
   abbrev κ₀₇ : Lfts 8
@@ -115,7 +115,7 @@ module _ {M : Type 1} (𝓤 : URA M) (H : Heap 𝓤) (A : Atoms 𝓤) (W : Given
   abbrev to-ranges : HeadRanges 𝓤 H A mem run .Ghost
   to-ranges = ((κ₀₇, q₀₇, tt, args₉, (slice-vals e, (slice-vals a, (slice-vals t, (slice-vals u, (slice-vals v, (uint-vals w32 address, (slice-vals x, (slice-vals y, (slice-vals z, tt)))))))))), tt)
 
-  abbrev to-tell : HeadRangesAnswer → Val → TellCount 𝓤 H A mem run .Ghost
+  abbrev to-tell : HeadRangesAnswer → Val → TellHeadRanges 𝓤 H A mem run .Ghost
   to-tell g w = (((κ₈, tt), (q₈, tt), tt, (g, (count, tt)), (w ∷ [], (ptr-vals count, tt))), tt)
 
   abbrev Told : HeadRangesAnswer → Type 0
@@ -137,7 +137,7 @@ module _ {M : Type 1} (𝓤 : URA M) (H : Heap 𝓤) (A : Atoms 𝓤) (W : Given
       move ! (1 ∷ []) $ fsplit ! $ drop ! $ move ! (1 ∷ []) $ fsplit ! $ move ! (1 ∷ []) $ fsplit ! $ move ! (1 ∷ []) $ fsplit ! $ move ! (1 ∷ []) $ fsplit ! $ move ! (1 ∷ []) $ fsplit ! $ move ! (1 ∷ []) $ fsplit ! $ move ! (1 ∷ []) $ fsplit ! $ move ! (1 ∷ []) $ fsplit ! $ move ! (1 ∷ []) $ fsplit ! $ move ! (1 ∷ []) $ drop ! $ move ! (9 ∷ []) $ move ! (1 ∷ 0 ∷ []) $ fjoin ! $ move ! (1 ∷ 0 ∷ []) $ fjoin ! $ move ! (1 ∷ 0 ∷ []) $ fjoin ! $ move ! (1 ∷ 0 ∷ []) $ fjoin ! $ move ! (1 ∷ 0 ∷ []) $ fjoin ! $ move ! (1 ∷ 0 ∷ []) $ fjoin ! $ move ! (1 ∷ 0 ∷ []) $ fjoin ! $ move ! (1 ∷ 0 ∷ []) $ fjoin ! $ move ! (1 ∷ 0 ∷ []) $ fjoin ! $ frame ! $ done !
 
   module _ (is-e : Is (Lent κ₀) e (slice-vals e)) (is-a : Is (ShrSlice (named 1) κ₁ u32) a (slice-vals a)) (is-t : Is (ShrSlice (named 2) κ₂ u32) t (slice-vals t)) (is-u : Is (ShrSlice (named 3) κ₃ i32) u (slice-vals u)) (is-v : Is (ShrSlice (named 4) κ₄ i32) v (slice-vals v)) (is-address : Is u32 address (uint-vals w32 address)) (is-x : Is (MutSlice (named 5) κ₅ u32) x (slice-vals x)) (is-y : Is (MutSlice (named 6) κ₆ i32) y (slice-vals y)) (is-z : Is (MutSlice (named 7) κ₇ i32) z (slice-vals z)) (is-count : Is (MutRef (named 8) κ₈ usize) count (ptr-vals count)) where
-    module _ (C : Calls 𝓤 H) (Λ : Loops 𝓤 H) (fm : FmC 𝓤 H (W .laws) C) (known-ranges : Triple 𝓤 (C #below) (HeadRanges 𝓤 H A mem run)) (known-tell : Triple 𝓤 (C #tell) (TellCount 𝓤 H A mem run)) where
+    module _ (C : Calls 𝓤 H) (Λ : Loops 𝓤 H) (fm : FmC 𝓤 H (W .laws) C) (known-ranges : Triple 𝓤 (C #below) (HeadRanges 𝓤 H A mem run)) (known-tell : Triple 𝓤 (C #tell) (TellHeadRanges 𝓤 H A mem run)) where
       walk : ent 𝓤 (onEntry 𝓤 H A head-ranges.signature κs qs args at) (WpFn 𝓤 H C Λ code.function machine Post)
       walk =
           qed W (Alive ∷ ‵ (owns Types args at) ∷ []) ∵ enter ! C Λ code.function machine _ $
@@ -152,9 +152,9 @@ module _ {M : Type 1} (𝓤 : URA M) (H : Heap 𝓤) (A : Atoms 𝓤) (W : Given
           calls-at ! fm (HeadRanges 𝓤 H A mem run) known-ranges to-ranges (and-then ! (load ! (from ! (stop !)) (look ! 37 refl)) (and-then ! (load ! (from ! (stop !)) (look ! 35 refl)) (and-then ! (load ! (from ! (stop !)) (look ! 33 refl)) (and-then ! (load ! (from ! (stop !)) (look ! 31 refl)) (and-then ! (load ! (from ! (stop !)) (look ! 29 refl)) (and-then ! (load ! (from ! (stop !)) (look ! 27 refl)) (and-then ! (load ! (from ! (stop !)) (look ! 13 refl)) (and-then ! (load ! (from ! (stop !)) (look ! 9 refl)) (and-then ! (load ! (from ! (stop !)) (look ! 5 refl)) (no-more !)))))))))) (λ w.
           call-told ! tt below.ended (below.clauses 𝓤 H A mem run) to-ranges w (λ g ws. HeadRangesPromise panel address into (after ws) g) (λ g ws. id⊢ 𝓤 _) (λ g ws promise is-g.
           land ! (from ! (stop !)) (init ! 19 refl (EL.lawful Hd.the-type Hd′.the-laws 𝓤 H A W tt .typed g (w ∷ []) is-g .0)) $
-          -- `tell_count`: the lent count goes to it for good
-          assigns ! (addr ! (from ! (hop ! (look ! 21 refl) (stop !)))) (from ! (stop !)) (init ! 5 refl (tt, tt)) $ nothing ! $ move ! (5 ∷ 0 ∷ []) $ fjoin ! $ move ! (1 ∷ 0 ∷ []) $ fjoin ! $ nothing ! $ move ! (4 ∷ 0 ∷ []) $ join ! $ use2 W (raw (TellCount 𝓤 H A mem run .pre (to-tell g w))) (asks 𝓤 _) $
-          calls-at ! fm (TellCount 𝓤 H A mem run) known-tell (to-tell g w) (and-then ! (load ! (from ! (stop !)) (look ! 17 refl)) (and-then ! (load ! (from ! (stop !)) (look ! 3 refl)) (no-more !))) (λ w′.
+          -- `tell_head_ranges`: the lent count goes to it for good
+          assigns ! (addr ! (from ! (hop ! (look ! 21 refl) (stop !)))) (from ! (stop !)) (init ! 5 refl (tt, tt)) $ nothing ! $ move ! (5 ∷ 0 ∷ []) $ fjoin ! $ move ! (1 ∷ 0 ∷ []) $ fjoin ! $ nothing ! $ move ! (4 ∷ 0 ∷ []) $ join ! $ use2 W (raw (TellHeadRanges 𝓤 H A mem run .pre (to-tell g w))) (asks 𝓤 _) $
+          calls-at ! fm (TellHeadRanges 𝓤 H A mem run) known-tell (to-tell g w) (and-then ! (load ! (from ! (stop !)) (look ! 17 refl)) (and-then ! (load ! (from ! (stop !)) (look ! 3 refl)) (no-more !))) (λ w′.
           call-told ! tt tell.ended (tell.clauses 𝓤 H A mem run) (to-tell g w) w′ (λ n zs. Counts (headRangesMeaning g) (λ m. m) (count .now) (zs .1 .0) n) (λ n zs. id⊢ 𝓤 _) (λ n zs counts fits. land ! (from ! (stop !)) (init ! 41 refl (uint-lawful 𝓤 H A W w8 .typed n (w′ ∷ []) fits .0)) $
           returns ! (look ! 41 refl) $ forget ! 41 refl $ forget ! 39 refl $ forget ! 37 refl $ forget ! 35 refl $ forget ! 33 refl $ forget ! 31 refl $ forget ! 29 refl $ forget ! 27 refl $ forget ! 25 refl $ forget ! 23 refl $ forget ! 21 refl $ forget ! 19 refl $ forget ! 17 refl $ forget ! 15 refl $ forget ! 13 refl $ forget ! 11 refl $ forget ! 9 refl $ forget ! 7 refl $ forget ! 5 refl $
           move ! (41 ∷ 42 ∷ []) $ free1 ! $ move ! (39 ∷ 40 ∷ []) $ free1 ! $ move ! (37 ∷ 38 ∷ []) $ free1 ! $ move ! (35 ∷ 36 ∷ []) $ free1 ! $ move ! (33 ∷ 34 ∷ []) $ free1 ! $ move ! (31 ∷ 32 ∷ []) $ free1 ! $ move ! (29 ∷ 30 ∷ []) $ free1 ! $ move ! (27 ∷ 28 ∷ []) $ free1 ! $ move ! (25 ∷ 26 ∷ []) $ free1 ! $ move ! (23 ∷ 24 ∷ []) $ free1 ! $ move ! (21 ∷ 22 ∷ []) $ free1 ! $ move ! (19 ∷ 20 ∷ []) $ free1 ! $ move ! (17 ∷ 18 ∷ []) $ free1 ! $ move ! (15 ∷ 16 ∷ []) $ free1 ! $ move ! (13 ∷ 14 ∷ []) $ free1 ! $ move ! (11 ∷ 12 ∷ []) $ free1 ! $ move ! (9 ∷ 10 ∷ []) $ free1 ! $ move ! (7 ∷ 8 ∷ []) $ free1 ! $ move ! (5 ∷ 6 ∷ []) $ free1 ! $ free0 ! $
@@ -167,7 +167,7 @@ humoraki-head-ranges-spec 𝓤 H 𝓜 𝓖 𝓡 =
     let W = givenOf 𝓤 H 𝓜 𝓖 in
     let 𝓣 = tables 𝓤 H 𝓜 𝓡 code.env in
     let known-ranges = cited 𝓤 H (HeadRanges 𝓤 H A (𝓜 .mem) (𝓡 .run)) 𝓜 𝓡 code.env #below below-def.routine code.calls-panel·head-ranges (below-thm.met 𝓤 H 𝓜 𝓖 𝓡) in
-    let known-tell = cited 𝓤 H (TellCount 𝓤 H A (𝓜 .mem) (𝓡 .run)) 𝓜 𝓡 code.env #tell tell-def.routine code.calls-humoraki·tell-count (tell-thm.met 𝓤 H 𝓜 𝓖 𝓡) in
+    let known-tell = cited 𝓤 H (TellHeadRanges 𝓤 H A (𝓜 .mem) (𝓡 .run)) 𝓜 𝓡 code.env #tell tell-def.routine code.calls-answer-numbers·tell-head-ranges (tell-thm.met 𝓤 H 𝓜 𝓖 𝓡) in
     proved 𝓤 H 𝓜 𝓖 𝓡 code.env head-ranges.ended stayed (head-ranges.clauses 𝓤 H A (𝓜 .mem) (𝓡 .run)) #head-ranges code.function (code.unfolded 𝓤 H 𝓜 𝓡) (goes-on 𝓤 H A W 9 (head-ranges.ended .signature .params) (head-ranges.ended .kept))
     (λ κs. (slice-vals, (slice-vals, (slice-vals, (slice-vals, (slice-vals, (uint-vals w32, (slice-vals, (slice-vals, (slice-vals, (ptr-vals, tt)))))))))))
     (λ κs. (shr-slice-tells (named 0) (κs .0) Row, (shr-slice-tells (named 1) (κs .1 .0) u32, (shr-slice-tells (named 2) (κs .1 .1 .0) u32, (shr-slice-tells (named 3) (κs .1 .1 .1 .0) i32, (shr-slice-tells (named 4) (κs .1 .1 .1 .1 .0) i32, (uint-tells w32, (mut-slice-tells (named 5) (κs .1 .1 .1 .1 .1 .0) u32, (mut-slice-tells (named 6) (κs .1 .1 .1 .1 .1 .1 .0) i32, (mut-slice-tells (named 7) (κs .1 .1 .1 .1 .1 .1 .1 .0) i32, (mut-tells (named 8) (κs .1 .1 .1 .1 .1 .1 .1 .1 .0) usize, tt)))))))))))

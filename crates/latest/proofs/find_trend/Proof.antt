@@ -32,7 +32,10 @@ slice-aggregate-latest-start-4 : tie.Need-slice-aggregate-latest-start-4
 slice-aggregate-latest-start-4 c = search needs
 
 latest-start-requires : tie.Need-latest-start-requires
-latest-start-requires c κs = search needs
+latest-start-requires c κs =
+    let ready = c .before .before .before .before .before .pre in
+    let two : 2 ≤ length (now (c .before .before .before .before .before .args .times)) = ready .two in
+    (ready .tried .lists-accepted, omega arith, ready .tried .few, search needs, search needs)
 
 slice-aggregate-run-from : tie.Need-slice-aggregate-run-from
 slice-aggregate-run-from c = search needs

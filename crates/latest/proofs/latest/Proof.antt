@@ -28,7 +28,7 @@ use Rattle.latest.proofs.latest.Tie as tie
 -- ---- at entry
 
 abbrev service : tie.Start → Service
-service s = record { level = s .args .level; direction = s .args .direction }
+service s = record { level = s .args .level; direction = s .args .direction; step = s .args .step }
 
 abbrev lists : tie.Start → Lists
 lists s = record { times = now (s .args .times); lows = now (s .args .lows); highs = now (s .args .highs) }
@@ -65,7 +65,7 @@ module _ (c : tie.After-try-lists) where
   number-is = sym (c .try-lists .ensures)
 
   outside-is : c .before .service-outside .result ≡ badService (service entry)
-  outside-is = c .before .service-outside .ensures ∙ ap (λ z. badService (record { level = z; direction = service entry .direction })) (level-read entry)
+  outside-is = c .before .service-outside .ensures ∙ ap (λ z. badService (record { level = z; direction = service entry .direction; step = service entry .step })) (level-read entry)
 
   call-rows : firstRow (latestRows (lengths entry) (service entry) (lists entry)) ≡ firstRow rows
   call-rows = rows-are (lengths entry) (service entry) (lists entry) (c .before .before .three-short .ensures) outside-is
@@ -102,7 +102,7 @@ find-trend-requires : tie.Need-find-trend-requires
 find-trend-requires c κs =
     let t = c .before .before .before .before .before in
     let s = entry t in
-    subst (λ l. Ready (record { level = l; direction = service s .direction }) (lists s) (now (s .args .ps)) (now (s .args .qs)) (now (s .args .ds))) (sym (level-read s)) (ready t (c .before .before .before .before .if1 .left) (c .before .before .before .if2 .left))
+    subst (λ l. Ready (record { level = l; direction = service s .direction; step = service s .step }) (lists s) (now (s .args .ps)) (now (s .args .qs)) (now (s .args .ds))) (sym (level-read s)) (ready t (c .before .before .before .before .if1 .left) (c .before .before .before .if2 .left))
 
 same-length : tie.Need-same-length
 same-length c = search needs
@@ -119,7 +119,7 @@ returns-3 c =
     let s = entry t in
     let found = c .before .before .before .find-trend in
     promise-trend (service s) (lists s) (now (s .args .ps)) (now (s .args .qs)) (now (s .args .ds)) (none-holds t (c .before .before .before .before .before .before .before .before .if1 .left))
-    (subst (λ l. TrendGiven (record { level = l; direction = service s .direction }) (lists s) (now (s .args .ps)) (now (s .args .qs)) (now (s .args .ds)) (found .last .1 .1 .1 .1 .0) (found .last .1 .1 .1 .1 .1 .0) (found .last .1 .1 .1 .1 .1 .1 .0) (found .result)) (level-read s) (found .ensures))
+    (subst (λ l. TrendGiven (record { level = l; direction = service s .direction; step = service s .step }) (lists s) (now (s .args .ps)) (now (s .args .qs)) (now (s .args .ds)) (found .last .1 .1 .1 .1 .0) (found .last .1 .1 .1 .1 .1 .0) (found .last .1 .1 .1 .1 .1 .1 .0) (found .result)) (level-read s) (found .ensures))
 
 pub latest-spec : {M : Type 1} → statement M
 latest-spec =

@@ -29,17 +29,17 @@ abbrev lists : tie.Start → Lists
 lists s = record { times = s .args .times .now; lows = s .args .lows .now; highs = s .args .highs .now }
 
 abbrev service : tie.Start → Service
-service s = record { level = toZ w32 (ofZ w32 (s .args .level)); direction = s .args .direction }
+service s = record { level = toZ w32 (ofZ w32 (s .args .level)); direction = s .args .direction; step = s .args .step }
 
 abbrev range : tie.Start → Range
 range s = record { time = s .args .time; low = toZ w32 (ofZ w32 (s .args .low)); high = toZ w32 (ofZ w32 (s .args .high)) }
 
 -- what is promised of the numbers as they are passed on is promised of them as they were given
 as-given : (s : tie.Start) {answer : PreviewAnswer} → PreviewPromise (service s) (lists s) (range s) answer
-    → PreviewPromise (record { level = s .args .level; direction = s .args .direction }) (lists s) (record { time = s .args .time; low = s .args .low; high = s .args .high }) answer
+    → PreviewPromise (record { level = s .args .level; direction = s .args .direction; step = s .args .step }) (lists s) (record { time = s .args .time; low = s .args .low; high = s .args .high }) answer
 as-given s {answer} =
     subst (λ (n : Service × Range). PreviewPromise (n .0) (lists s) (n .1) answer)
-    (λ j. (record { level = toZ-ofZ (s .fits .level) j; direction = s .args .direction }, record { time = s .args .time; low = toZ-ofZ (s .fits .low) j; high = toZ-ofZ (s .fits .high) j }))
+    (λ j. (record { level = toZ-ofZ (s .fits .level) j; direction = s .args .direction; step = s .args .step }, record { time = s .args .time; low = toZ-ofZ (s .fits .low) j; high = toZ-ofZ (s .fits .high) j }))
 
 -- ---- where the trial has answered
 

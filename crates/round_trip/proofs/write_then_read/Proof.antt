@@ -29,10 +29,10 @@ words c = below-each 4294967296 (lent (c .before) .times) λ i. c .shared-slice-
 -- ---- what Write promised
 
 abbrev filled : tie.After-write → List ℕ
-filled c = c .write .last .1 .1 .1 .1 .1 .1 .0
+filled c = c .write .last .1 .1 .1 .1 .1 .1 .1 .0
 
 abbrev Promise : tie.After-write → WriteAnswer → Type 0
-Promise c w = let s = start c in WritePromise (record { address = s .args .address; service = record { level = s .args .level; direction = s .args .direction } }) (lent s) (now (s .args .file)) (filled c) w
+Promise c w = let s = start c in WritePromise (record { address = s .args .address; service = record { level = s .args .level; direction = s .args .direction; step = s .args .step } }) (lent s) (now (s .args .file)) (filled c) w
 
 promised : (c : tie.After-write) → Promise c (c .write .result)
 promised c = rw (toZ-ofZ (start c .fits .level)) at (c .write .ensures)

@@ -13,11 +13,11 @@ use Rattle.latest.proofs.backward.read_backward.Statement.{statement}
 use Rattle.latest.proofs.backward.read_backward.Tie as tie
 
 abbrev Inv-loop : tie.InvT-loop
-Inv-loop times highs lows back-times₀ back-highs₀ back-lows₀ last n k₀ back-times back-highs back-lows k =
+Inv-loop times highs lows back-times₀ back-highs₀ back-lows₀ n k₀ back-times back-highs back-lows k =
     Turning (lent times highs lows) (lent back-times₀ back-highs₀ back-lows₀) (lent back-times back-highs back-lows) k
 
 abbrev μ-loop : tie.MeasureT-loop
-μ-loop times highs lows back-times₀ back-highs₀ back-lows₀ last n k₀ back-times back-highs back-lows k = n - k
+μ-loop times highs lows back-times₀ back-highs₀ back-lows₀ n k₀ back-times back-highs back-lows k = n - k
 
 abbrev lists : tie.Start Inv-loop μ-loop → Lists
 lists c = lent (now (c .args .times)) (now (c .args .highs)) (now (c .args .lows))
@@ -28,9 +28,6 @@ copies c = lent (now (c .args .back-times)) (now (c .args .back-highs)) (now (c 
 -- a time of 32 bits is at most the last
 below-last : {t : ℕ} → t < 4294967296 → t ≤ mostTime
 below-last h = omega arith
-
-cast-last : tie.Need-cast-last Inv-loop μ-loop
-cast-last c = search needs
 
 loop-holds : tie.Need-loop-holds Inv-loop μ-loop
 loop-holds c = turning (lists c) (copies c)
@@ -74,8 +71,8 @@ mul-back-lows-2 c = search needs
 shared-slice-copy-out-back-lows : tie.Need-shared-slice-copy-out-back-lows Inv-loop μ-loop
 shared-slice-copy-out-back-lows c = search needs
 
-mul-t16 : tie.Need-mul-t16 Inv-loop μ-loop
-mul-t16 c = search needs
+mul-t15 : tie.Need-mul-t15 Inv-loop μ-loop
+mul-t15 c = search needs
 
 slice-set-from-back-lows-2 : tie.Need-slice-set-from-back-lows-2 Inv-loop μ-loop
 slice-set-from-back-lows-2 c = search needs
@@ -114,7 +111,6 @@ read-backward-spec =
     (tie.spec
     Inv-loop
     μ-loop
-    cast-last
     loop-holds
     sub-from
     sub-from-2
@@ -129,7 +125,7 @@ read-backward-spec =
     slice-set-from-back-lows
     mul-back-lows-2
     shared-slice-copy-out-back-lows
-    mul-t16
+    mul-t15
     slice-set-from-back-lows-2
     add-k
     loop-less

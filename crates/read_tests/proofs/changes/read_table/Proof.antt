@@ -11,7 +11,7 @@ abbrev Inv-loop : tie.InvT-loop
 Inv-loop times₀ lows₀ highs₀ k₀ times lows highs k = (length times ≡ length times₀) × (length lows ≡ length lows₀) × (length highs ≡ length highs₀)
 
 abbrev μ-loop : tie.MeasureT-loop
-μ-loop times₀ lows₀ highs₀ k₀ times lows highs k = 54 - k
+μ-loop times₀ lows₀ highs₀ k₀ times lows highs k = 58 - k
 
 loop-holds : tie.Need-loop-holds Inv-loop μ-loop
 loop-holds c = search needs

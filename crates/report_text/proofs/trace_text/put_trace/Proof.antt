@@ -21,17 +21,17 @@ use Rattle.report_text.proofs.trace_text.put_trace.Tie as tie
 -- ---- Segment's call
 
 abbrev service : tie.Start → Service
-service s = record { level = s .args .level; direction = s .args .direction }
+service s = record { level = s .args .level; direction = s .args .direction; step = s .args .step }
 
 abbrev lists : tie.Start → Lists
 lists s = record { times = s .args .times .now; lows = s .args .lows .now; highs = s .args .highs .now }
 
 -- the slices after it
 abbrev new : tie.After-segment → Columns
-new c = let l = c .segment .last in columns (l .1 .1 .1 .1 .1 .0) (l .1 .1 .1 .1 .1 .1 .0) (l .1 .1 .1 .1 .1 .1 .1 .0) (l .1 .1 .1 .1 .1 .1 .1 .1 .0) (l .1 .1 .1 .1 .1 .1 .1 .1 .1 .0) (l .1 .1 .1 .1 .1 .1 .1 .1 .1 .1 .0) (l .1 .1 .1 .1 .1 .1 .1 .1 .1 .1 .1 .0) (l .1 .1 .1 .1 .1 .1 .1 .1 .1 .1 .1 .1 .0) (l .1 .1 .1 .1 .1 .1 .1 .1 .1 .1 .1 .1 .1 .0) (l .1 .1 .1 .1 .1 .1 .1 .1 .1 .1 .1 .1 .1 .1 .0) (l .1 .1 .1 .1 .1 .1 .1 .1 .1 .1 .1 .1 .1 .1 .1 .0)
+new c = let l = c .segment .last in columns (l .1 .1 .1 .1 .1 .1 .0) (l .1 .1 .1 .1 .1 .1 .1 .0) (l .1 .1 .1 .1 .1 .1 .1 .1 .0) (l .1 .1 .1 .1 .1 .1 .1 .1 .1 .0) (l .1 .1 .1 .1 .1 .1 .1 .1 .1 .1 .0) (l .1 .1 .1 .1 .1 .1 .1 .1 .1 .1 .1 .0) (l .1 .1 .1 .1 .1 .1 .1 .1 .1 .1 .1 .1 .0) (l .1 .1 .1 .1 .1 .1 .1 .1 .1 .1 .1 .1 .1 .0) (l .1 .1 .1 .1 .1 .1 .1 .1 .1 .1 .1 .1 .1 .1 .0) (l .1 .1 .1 .1 .1 .1 .1 .1 .1 .1 .1 .1 .1 .1 .1 .0) (l .1 .1 .1 .1 .1 .1 .1 .1 .1 .1 .1 .1 .1 .1 .1 .1 .0)
 
 promise : (c : tie.After-segment) → let s = c .before .before .before .before .before .before .before .before .before .before .before .before .before .before in SegmentPromise (service s) (lists s) (zeroColumns segmentRoom) (new c) (c .segment .result)
-promise c = let s = c .before .before .before .before .before .before .before .before .before .before .before .before .before .before in subst (λ z. SegmentPromise (record { level = z; direction = s .args .direction }) (lists s) (zeroColumns segmentRoom) (new c) (c .segment .result)) (toZ-ofZ (s .fits .level)) (c .segment .ensures)
+promise c = let s = c .before .before .before .before .before .before .before .before .before .before .before .before .before .before in subst (λ z. SegmentPromise (record { level = z; direction = s .args .direction; step = s .args .step }) (lists s) (zeroColumns segmentRoom) (new c) (c .segment .result)) (toZ-ofZ (s .fits .level)) (c .segment .ensures)
 
 refuses : (c : tie.After-answer) → let segment = c .before .before .before .before .before .before .before .before .before .before .before .before .before in let s = segment .before .before .before .before .before .before .before .before .before .before .before .before .before .before in SegmentPromise (service s) (lists s) (zeroColumns segmentRoom) (new segment) (Refused (c .answer .given .0 .0))
 refuses c = let segment = c .before .before .before .before .before .before .before .before .before .before .before .before .before in let s = segment .before .before .before .before .before .before .before .before .before .before .before .before .before .before in subst (SegmentPromise (service s) (lists s) (zeroColumns segmentRoom) (new segment)) (c .answer .given .1) (promise segment)
@@ -96,37 +96,37 @@ put-heading-requires : tie.Need-put-heading-requires
 put-heading-requires c κs = omega (arith, c .before .before .before .before .before .before .before .before .before .before .before .before .before .before .before .before .before .before .before .before .before .before .before .before .before .before .before .before .before .pre)
 
 slice-aggregate-put-segments : tie.Need-slice-aggregate-put-segments
-slice-aggregate-put-segments c = sym (c .before .before .before .before .before .before .before .before .before .before .before .before .before .before .before .before .before .before .before .before .segment .kept .1 .1 .1 .1 .1 .0)
+slice-aggregate-put-segments c = sym (c .before .before .before .before .before .before .before .before .before .before .before .before .before .before .before .before .before .before .before .before .segment .kept .1 .1 .1 .1 .1 .1 .0)
 
 slice-aggregate-put-segments-2 : tie.Need-slice-aggregate-put-segments-2
-slice-aggregate-put-segments-2 c = sym (c .before .before .before .before .before .before .before .before .before .before .before .before .before .before .before .before .before .before .before .before .before .segment .kept .1 .1 .1 .1 .1 .1 .0)
+slice-aggregate-put-segments-2 c = sym (c .before .before .before .before .before .before .before .before .before .before .before .before .before .before .before .before .before .before .before .before .before .segment .kept .1 .1 .1 .1 .1 .1 .1 .0)
 
 slice-aggregate-put-segments-3 : tie.Need-slice-aggregate-put-segments-3
-slice-aggregate-put-segments-3 c = sym (c .before .before .before .before .before .before .before .before .before .before .before .before .before .before .before .before .before .before .before .before .before .before .segment .kept .1 .1 .1 .1 .1 .1 .1 .0)
+slice-aggregate-put-segments-3 c = sym (c .before .before .before .before .before .before .before .before .before .before .before .before .before .before .before .before .before .before .before .before .before .before .segment .kept .1 .1 .1 .1 .1 .1 .1 .1 .0)
 
 slice-aggregate-put-segments-4 : tie.Need-slice-aggregate-put-segments-4
-slice-aggregate-put-segments-4 c = sym (c .before .before .before .before .before .before .before .before .before .before .before .before .before .before .before .before .before .before .before .before .before .before .before .segment .kept .1 .1 .1 .1 .1 .1 .1 .1 .0)
+slice-aggregate-put-segments-4 c = sym (c .before .before .before .before .before .before .before .before .before .before .before .before .before .before .before .before .before .before .before .before .before .before .before .segment .kept .1 .1 .1 .1 .1 .1 .1 .1 .1 .0)
 
 slice-aggregate-put-segments-5 : tie.Need-slice-aggregate-put-segments-5
-slice-aggregate-put-segments-5 c = sym (c .before .before .before .before .before .before .before .before .before .before .before .before .before .before .before .before .before .before .before .before .before .before .before .before .segment .kept .1 .1 .1 .1 .1 .1 .1 .1 .1 .0)
+slice-aggregate-put-segments-5 c = sym (c .before .before .before .before .before .before .before .before .before .before .before .before .before .before .before .before .before .before .before .before .before .before .before .before .segment .kept .1 .1 .1 .1 .1 .1 .1 .1 .1 .1 .0)
 
 slice-aggregate-put-segments-6 : tie.Need-slice-aggregate-put-segments-6
-slice-aggregate-put-segments-6 c = sym (c .before .before .before .before .before .before .before .before .before .before .before .before .before .before .before .before .before .before .before .before .before .before .before .before .before .segment .kept .1 .1 .1 .1 .1 .1 .1 .1 .1 .1 .0)
+slice-aggregate-put-segments-6 c = sym (c .before .before .before .before .before .before .before .before .before .before .before .before .before .before .before .before .before .before .before .before .before .before .before .before .before .segment .kept .1 .1 .1 .1 .1 .1 .1 .1 .1 .1 .1 .0)
 
 slice-aggregate-put-segments-7 : tie.Need-slice-aggregate-put-segments-7
-slice-aggregate-put-segments-7 c = sym (c .before .before .before .before .before .before .before .before .before .before .before .before .before .before .before .before .before .before .before .before .before .before .before .before .before .before .segment .kept .1 .1 .1 .1 .1 .1 .1 .1 .1 .1 .1 .0)
+slice-aggregate-put-segments-7 c = sym (c .before .before .before .before .before .before .before .before .before .before .before .before .before .before .before .before .before .before .before .before .before .before .before .before .before .before .segment .kept .1 .1 .1 .1 .1 .1 .1 .1 .1 .1 .1 .1 .0)
 
 slice-aggregate-put-segments-8 : tie.Need-slice-aggregate-put-segments-8
-slice-aggregate-put-segments-8 c = sym (c .before .before .before .before .before .before .before .before .before .before .before .before .before .before .before .before .before .before .before .before .before .before .before .before .before .before .before .segment .kept .1 .1 .1 .1 .1 .1 .1 .1 .1 .1 .1 .1 .0)
+slice-aggregate-put-segments-8 c = sym (c .before .before .before .before .before .before .before .before .before .before .before .before .before .before .before .before .before .before .before .before .before .before .before .before .before .before .before .segment .kept .1 .1 .1 .1 .1 .1 .1 .1 .1 .1 .1 .1 .1 .0)
 
 slice-aggregate-put-segments-9 : tie.Need-slice-aggregate-put-segments-9
-slice-aggregate-put-segments-9 c = sym (c .before .before .before .before .before .before .before .before .before .before .before .before .before .before .before .before .before .before .before .before .before .before .before .before .before .before .before .before .segment .kept .1 .1 .1 .1 .1 .1 .1 .1 .1 .1 .1 .1 .1 .0)
+slice-aggregate-put-segments-9 c = sym (c .before .before .before .before .before .before .before .before .before .before .before .before .before .before .before .before .before .before .before .before .before .before .before .before .before .before .before .before .segment .kept .1 .1 .1 .1 .1 .1 .1 .1 .1 .1 .1 .1 .1 .1 .0)
 
 slice-aggregate-put-segments-10 : tie.Need-slice-aggregate-put-segments-10
-slice-aggregate-put-segments-10 c = sym (c .before .before .before .before .before .before .before .before .before .before .before .before .before .before .before .before .before .before .before .before .before .before .before .before .before .before .before .before .before .segment .kept .1 .1 .1 .1 .1 .1 .1 .1 .1 .1 .1 .1 .1 .1 .0)
+slice-aggregate-put-segments-10 c = sym (c .before .before .before .before .before .before .before .before .before .before .before .before .before .before .before .before .before .before .before .before .before .before .before .before .before .before .before .before .before .segment .kept .1 .1 .1 .1 .1 .1 .1 .1 .1 .1 .1 .1 .1 .1 .1 .0)
 
 slice-aggregate-put-segments-11 : tie.Need-slice-aggregate-put-segments-11
-slice-aggregate-put-segments-11 c = sym (c .before .before .before .before .before .before .before .before .before .before .before .before .before .before .before .before .before .before .before .before .before .before .before .before .before .before .before .before .before .before .segment .kept .1 .1 .1 .1 .1 .1 .1 .1 .1 .1 .1 .1 .1 .1 .1 .0)
+slice-aggregate-put-segments-11 c = sym (c .before .before .before .before .before .before .before .before .before .before .before .before .before .before .before .before .before .before .before .before .before .before .before .before .before .before .before .before .before .before .segment .kept .1 .1 .1 .1 .1 .1 .1 .1 .1 .1 .1 .1 .1 .1 .1 .1 .0)
 
 put-segments-requires : tie.Need-put-segments-requires
 put-segments-requires c κs =

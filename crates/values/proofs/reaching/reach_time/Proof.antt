@@ -1,5 +1,6 @@
 -- `values::reaching::reach_time` meets its contract: where the trace falls, the mirror image of the line rises to the level negated when the line falls to the level. Assumes nothing.
 use mathlib.Core.Path.{sym, ap, ap₂, _∙_}
+use Prim.Native.Nat.{_*_}
 use mir.Syntax.{w32}
 use borrow.Author.Needs.{needs}
 use Rattle.integers.specs.Bounds.{fits, in-neg}
@@ -13,15 +14,16 @@ use Rattle.values.proofs.reaching.reach_time.Statement.{statement}
 use Rattle.values.proofs.reaching.reach_time.Tie as tie
 
 rise-time-requires : tie.Need-rise-time-requires
-rise-time-requires c κs = search needs
+rise-time-requires c κs = let good = c .before .before .before .pre .1 in rw (read-back w32 (good .level-within) tt) (c .before .before .before .pre .0, good .level-within, good .step-good, c .before .before .before .pre .2)
 
 returns : tie.Need-returns
 returns c =
     let s = c .before .before .before .before in
     let v = s .args .v in
+    let from = s .args .turns .first * v .step in
     c .rise-time .ensures
-    ∙ ap (λ z. reachTime (rises z) (s .args .from) (lineOf (s .args .l))) (read-back w32 (s .pre .1 .level-within) tt)
-    ∙ ap (λ n. reachTime (record { level = v .level; direction = n }) (s .args .from) (lineOf (s .args .l))) (sym (c .before .before .if1 .taken))
+    ∙ ap (λ z. reachTime (rises z (v .step)) from (lineOf (s .args .l))) (read-back w32 (s .pre .1 .level-within) tt)
+    ∙ ap (λ n. reachTime (record { level = v .level; direction = n; step = v .step }) from (lineOf (s .args .l))) (sym (c .before .before .if1 .taken))
 
 mirrored-requires : tie.Need-mirrored-requires
 mirrored-requires c κs = search needs
@@ -31,16 +33,17 @@ sub-rise-time c = fits (negated-in w32 (c .before .before .before .before .befor
 
 rise-time-requires-2 : tie.Need-rise-time-requires-2
 rise-time-requires-2 c κs =
-    let s = c .before .before .before .before .before in
-    (c .before .before .mirrored .ensures .small, rw (negated-is w32 (s .pre .1 .level-within) tt) (in-neg (s .pre .1 .level-within)))
+    let good = c .before .before .before .before .before .pre .1 in
+    (c .before .before .mirrored .ensures .small, rw (negated-is w32 (good .level-within) tt) (in-neg (good .level-within)), good .step-good, c .before .before .before .before .before .pre .2)
 
 returns-2 : tie.Need-returns-2
 returns-2 c =
     let s = c .before .before .before .before .before .before in
     let v = s .args .v in
+    let from = s .args .turns .first * v .step in
     c .rise-time2 .ensures
-    ∙ ap₂ (λ z k. reachTime (rises z) (s .args .from) k) (negated-is w32 (s .pre .1 .level-within) tt) (c .before .before .before .mirrored .ensures .is)
-    ∙ sym (reachTime-falling (serviceOf v) (is-falling (v .direction) (c .before .before .before .before .if1 .left)) (s .args .from) (lineOf (s .args .l)))
+    ∙ ap₂ (λ z k. reachTime (rises z (v .step)) from k) (negated-is w32 (s .pre .1 .level-within) tt) (c .before .before .before .mirrored .ensures .is)
+    ∙ sym (reachTime-falling (serviceOf v) (is-falling (v .direction) (c .before .before .before .before .if1 .left)) from (lineOf (s .args .l)))
 
 pub reach-time-spec : {M : Type 1} → statement M
 reach-time-spec =
