@@ -18,6 +18,7 @@
  *    8   a lent slice to be filled, or a list of a panel, is too short
  *    9   k is 0 or above the number of ranges
  *   10   times, lows and highs differ in length
+ *   11   in a file, a value of a reading is infinite or not a number, or is not a whole number of 256ths
  *   12   no entry of the panel has the address
  *   13   the head holds 32 ranges or more, and the panel's common places are taken
  *   14   not a panel: it has 0 entries or over 64, one address in two of them, or one outside its span; some head
@@ -35,6 +36,10 @@
  * A range is a time, from 0 to 4,294,967,295, with a low and a high, each from -268,435,456 to 268,435,456, low at most
  * high. The ranges of a trace have rising times, and there are at most 4,096 of them. docs/SCOPE.md has the form of a
  * trace file and the order of corners, docs/LIBRARY.md the stack that each function needs.
+ *
+ * The file of a logger may have readings in the place of ranges: a spot value, or a low and a high, in IEEE 754
+ * binary32. They become ranges in 256ths, so that 1.5 is 384, and the level of such a file is in 256ths too. Nothing is
+ * rounded: a value that is no whole number of 256ths is refused with 11. No function takes or gives a float.
  */
 #ifndef HUMORAKI_H
 #define HUMORAKI_H
@@ -112,15 +117,20 @@ extern "C" {
  *
  * file       the file's bytes, of any number
  * times      filled with the time of each range
- * lows       filled with the low of each range
- * highs      filled with the high of each range
+ * lows       filled with the low of each range; of a reading in 256ths
+ * highs      filled with the high of each range, likewise; a spot value is both low and high, and minus zero is 0
  * address    set to the detector's address, 1 to 65,535: up to 255 the file has it in one byte, above in two
- * level      set to the service level
+ * level      set to the service level, as it stands in the file: beside readings it is in 256ths already
  * direction  set to HUMORAKI_FALLING, which is 1, where the file says so, else to HUMORAKI_RISING, which is 0
  * step       set to the step that the file says, 2 to 86,400, or to 1 where it says none
  * ranges     set to the number of ranges
  *
- * Refusals: 8, then field by field 1, 2, 3, 7, 1 for a body cut short, 4, 5, 6.
+ * A file has ranges or readings and not both: the first of them decides, and a field of the other kind after it gets 2.
+ * What is filled and set does not tell which they were.
+ *
+ * Refusals: 8, then field by field 1, 2, 3, 7, 1 for a body cut short, 4, 5, 6. Of a reading 11 is tried just before 4
+ * on the same value: 11 and 4 of the low, 11 and 4 of the high, 5, 6. A finite value that is too large gets 4, however
+ * large it is.
  */
 uint8_t humoraki_read(const uint8_t *file, size_t file_len,
                       uint32_t *times, size_t times_len,
@@ -129,7 +139,8 @@ uint8_t humoraki_read(const uint8_t *file, size_t file_len,
                       uint32_t *address, int32_t *level, uint32_t *direction, uint32_t *step, size_t *ranges);
 
 /*
- * Writes a trace file.
+ * Writes a trace file, always with ranges: of a trace that was read from readings it is another file, with the same
+ * trace and the same report.
  *
  * address             the detector's address, 1 to 65,535; the file gets it in one byte up to 255, above in two.
  *                     None is cut to fit: 65,543, whose last 16 bits are 7, is refused with 4
@@ -265,8 +276,9 @@ uint8_t humoraki_latest(int32_t level, uint32_t direction, uint32_t step,
  * text   filled with the report's bytes; each line ends with a line feed
  * count  set to the number of bytes
  *
- * A file that is turned down has a report too, so 8, for a text that is too short, is the only refusal. The times are
- * those of the direction and the step that the file says; the text itself does not tell which these are.
+ * A file that is turned down has a report too, such as `refused 11`, so 8, for a text that is too short, is the only
+ * refusal. The times are those of the direction and the step that the file says; the text itself does not tell which
+ * these are, nor whether level and lines are in 256ths, as those of readings are.
  */
 uint8_t humoraki_report(const uint8_t *file, size_t file_len,
                         uint8_t *text, size_t text_len,

@@ -1,8 +1,8 @@
 /*
  * Tries from C what humoraki.h says of memory that is lent: a pointer beside a length of 0 may be null, and what a
  * function fills, sets or changes is written on success and left alone else. Then writes and reads back the addresses
- * and the steps at the ends of their spans and both directions, hands in numbers past them, previews ranges, asks for
- * latest trends, and fills a panel. Prints what is not so, and then ends with 1.
+ * and the steps at the ends of their spans and both directions, hands in numbers past them, reads readings, previews
+ * ranges, asks for latest trends, and fills a panel. Prints what is not so, and then ends with 1.
  */
 #include "humoraki.h"
 
@@ -262,6 +262,53 @@ static void try_services(void) {
     expect(kept(), "segment", "something is changed although the direction or the step is refused");
 }
 
+/* A logger's file: address 7, level 640, then 0.5 at 10, and 0.75 to 1.25 at 20, in binary32. */
+static const uint8_t logger[] = {
+    1, 0, 1, 7, 2, 0, 4, 0, 0, 2, 0x80,
+    6, 0, 8, 0, 0, 0, 10, 0x3f, 0, 0, 0,
+    7, 0, 12, 0, 0, 0, 20, 0x3f, 0x40, 0, 0, 0x3f, 0xa0, 0, 0,
+};
+
+/* Where its three values begin, and what is refused there: half a 256th, what is infinite, what is not a number, and the
+   largest of all. */
+static const size_t values_at[] = {18, 29, 33};
+static const struct {
+    uint8_t bytes[4], number;
+} refused_values[] = {
+    {{0x3b, 0, 0, 0}, 11}, {{0x7f, 0x80, 0, 0}, 11}, {{0x7f, 0xc0, 0, 0}, 11}, {{0x7f, 0x7f, 0xff, 0xff}, 4},
+};
+
+/* What Read fills and sets. */
+#define TRACE SLICE(0, times), SLICE(1, lows), SLICE(2, highs), RECORD
+
+/* Reads the file with another value, which is refused with a number; its report tells that. */
+static void try_refused_value(size_t place, const uint8_t value[4], uint8_t number) {
+    int missing = -1;
+    uint8_t file[sizeof logger];
+    char text[16];
+    memcpy(file, logger, sizeof logger);
+    memcpy(file + place, value, 4);
+    mark();
+    expect(humoraki_read(file, sizeof file, TRACE) == number, "read", "another number for a value");
+    expect(kept(), "read", "something is changed although a value is refused");
+    int length = snprintf(text, sizeof text, "refused %d\n", number);
+    expect(humoraki_report(file, sizeof file, SLICE(0, text), &lent.count) == 0, "report", "a report is refused");
+    expect(lent.count == (size_t)length && memcmp(lent.text, text, lent.count) == 0, "report", "another refusal");
+}
+
+/* Reads the file, whose values are taken in 256ths, and then with each value that is refused in each place. */
+static void try_readings(void) {
+    int missing = -1;
+    mark();
+    expect(humoraki_read(logger, sizeof logger, TRACE) == 0, "read", "another number for readings");
+    expect(lent.ranges == 2 && lent.level == 640, "read", "another record of readings");
+    expect(lent.times[0] == 10 && lent.lows[0] == 128 && lent.highs[0] == 128, "read", "another spot value");
+    expect(lent.times[1] == 20 && lent.lows[1] == 192 && lent.highs[1] == 320, "read", "another span");
+    for (size_t at = 0; at < sizeof refused_values / sizeof refused_values[0]; at++)
+        for (size_t place = 0; place < sizeof values_at / sizeof values_at[0]; place++)
+            try_refused_value(values_at[place], refused_values[at].bytes, refused_values[at].number);
+}
+
 /* The first so many ranges of the first sample. */
 static const uint32_t sample_times[] = {10, 20, 30, 40, 50};
 static const int32_t sample_lows[] = {0, 4, 10, 9, 9}, sample_highs[] = {4, 8, 14, 11, 12};
@@ -400,6 +447,7 @@ int main(void) {
     }
     try_addresses();
     try_services();
+    try_readings();
     try_previews();
     try_latest_trends();
     try_panel();

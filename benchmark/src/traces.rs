@@ -8,9 +8,9 @@ const FIRST_TIME: i64 = 10_000_000;
 
 #[derive(Clone, Copy, PartialEq)]
 pub enum Shape {
-    /// Readings of a rising line: one segment, of whose fit few readings cut off anything.
+    /// Ranges about a rising line: one segment, of whose fit few ranges cut off anything.
     LongSegment,
-    /// Readings in no order: a segment has two or three ranges.
+    /// Ranges in no order: a segment has two or three of them.
     ShortSegments,
     /// The same upside down, on falling traces.
     FallingSegments,

@@ -3,9 +3,12 @@
 // Damages of one kind have one type, though some need no more than a slice.
 #![allow(clippy::ptr_arg)]
 
-use crate::file::{DIRECTION_TAG, STEP_TAG, bytes, field_start, field_with, fields_of_header};
+use crate::file::{
+    DIRECTION_TAG, STEP_TAG, bytes, bytes_with, field_start, field_with, fields_of_header, has_readings,
+};
 use crate::random::Random;
 use crate::trace::{LARGEST_VALUE, LEAST_VALUE, Trace};
+use crate::traces::readings::{any_value, readings};
 use crate::traces::services::{no_direction, no_step};
 
 type ValueDamage = fn(&mut Trace, &mut Random);
@@ -21,13 +24,15 @@ const OF_VALUES: [ValueDamage; 8] = [
     low_above_high,
     time_not_rising,
 ];
-const OF_BYTES: [ByteDamage; 16] = [
+const OF_BYTES: [ByteDamage; 18] = [
     address_widened,
     address_length_turned,
     direction_put,
     direction_changed,
     step_put,
     step_changed,
+    reading_put,
+    reading_changed,
     other_tag,
     other_length,
     field_removed,
@@ -40,7 +45,7 @@ const OF_BYTES: [ByteDamage; 16] = [
     bytes_behind,
 ];
 
-/// The trace's file with one to three damages.
+/// The trace's file, or one with readings in the place of its ranges, with one to three damages.
 pub fn damaged(trace: &Trace, random: &mut Random) -> Vec<u8> {
     let mut trace = trace.clone();
     let damages = 1 + random.below(3);
@@ -48,7 +53,8 @@ pub fn damaged(trace: &Trace, random: &mut Random) -> Vec<u8> {
     for _ in 0..of_values {
         random.pick(&OF_VALUES)(&mut trace, random);
     }
-    let mut file = bytes(&trace);
+    let with_readings = random.one_in(3);
+    let mut file = if with_readings { bytes_with(&trace, &readings(&trace.ranges, random)) } else { bytes(&trace) };
     for _ in of_values..damages {
         random.pick(&OF_BYTES)(&mut file, random);
     }
@@ -177,15 +183,42 @@ fn step_field(random: &mut Random) -> Vec<u8> {
     [vec![5, 0, length], body].concat()
 }
 
+fn reading_put(file: &mut Vec<u8>, random: &mut Random) {
+    let field = reading_field(random);
+    put(file, field, random);
+}
+
+/// A field with tag 6 or 7, likewise.
+fn reading_field(random: &mut Random) -> Vec<u8> {
+    let (tag, right) = random.pick(&[(6, 8), (7, 12)]);
+    let length = random.pick(&[right, right, right, 0, 4, 8, 12, 16]);
+    let numbers = [random.below(100) as u32, any_value(random), any_value(random)];
+    let mut body = numbers.map(u32::to_be_bytes).concat();
+    body.resize(random.pick(&[right as usize, length as usize]), 0);
+    [vec![tag, 0, length], body].concat()
+}
+
+/// Puts another value into a reading, if there are any.
+fn reading_changed(file: &mut Vec<u8>, random: &mut Random) {
+    if !has_readings(file) {
+        return;
+    }
+    let value = any_value(random).to_be_bytes();
+    let start = some_field(file, random).unwrap_or(0) + random.pick(&[7, 11]);
+    if let Some(place) = file.get_mut(start..start + value.len()) {
+        place.copy_from_slice(&value);
+    }
+}
+
 fn other_tag(file: &mut Vec<u8>, random: &mut Random) {
     if let Some(start) = some_field(file, random) {
-        file[start] = random.pick(&[0, 1, 2, 3, 4, 5, 6, 255]);
+        file[start] = random.pick(&[0, 1, 2, 3, 4, 5, 6, 7, 8, 255]);
     }
 }
 
 fn other_length(file: &mut Vec<u8>, random: &mut Random) {
     if let Some(start) = some_field(file, random).filter(|start| start + 3 <= file.len()) {
-        let length: u16 = random.pick(&[0, 1, 2, 3, 4, 5, 11, 12, 13, 256, 257, 258, 512, 3072, 65_535]);
+        let length: u16 = random.pick(&[0, 1, 2, 3, 4, 5, 7, 8, 9, 11, 12, 13, 256, 257, 258, 512, 3072, 65_535]);
         file[start + 1..start + 3].copy_from_slice(&length.to_be_bytes());
     }
 }
@@ -234,7 +267,7 @@ fn cut_off(file: &mut Vec<u8>, random: &mut Random) {
 
 fn bytes_behind(file: &mut Vec<u8>, random: &mut Random) {
     let behind = 1 + random.below(20);
-    let header = [3, 0, 12];
+    let header = random.pick(&[[3, 0, 12], [6, 0, 8], [7, 0, 12]]);
     for place in 0..behind {
         let junk = random.next() as u8;
         file.push(header.get(place).copied().filter(|_| random.one_in(2)).unwrap_or(junk));

@@ -13,9 +13,11 @@ use crate::calls::segment::SegmentCall;
 use crate::calls::write::WriteCall;
 use crate::calls::{Returned, Told, Wrong, uses};
 use crate::difference::{Difference, Outcome};
+use crate::file;
 use crate::line::Line;
 use crate::panel::Panel;
 use crate::random::Random;
+use crate::report;
 use crate::room::Room;
 use crate::segments::{BY_CLIPPING, Fitter, Segment, segments};
 use crate::tally::{Call, Tally};
@@ -124,6 +126,7 @@ impl Desk {
         let returned = self.report.call(file, expected, room, &mut self.random);
         let judged = judged(returned, &mut self.alteration, &mut self.random, &mut self.tally);
         self.tally.add("reports of a refusal", expected.starts_with("refused") as usize);
+        self.tally.add("reports of refusal 11", (expected == report::refused(11)) as usize);
         judged.map_err(|wrong| wrong.in_call(Told::on_file(self.report.in_words(expected, room), file)))
     }
 
@@ -150,15 +153,31 @@ impl Desk {
         self.segment(service, &self.head_ranges.left(), Ok(&segments), &Room::enough())
     }
 
-    /// Read and the report of a file that may be damaged; where it is accepted, Write gives its bytes back.
+    /// Read and the report of a file that may be damaged; where it is accepted, Write gives its bytes back, or, of
+    /// readings, a file of ranges with the same trace and the same report.
     pub fn file(&mut self, file: &[u8], fitter: Fitter) -> Outcome {
         let expected = answers::read(file);
+        let text = answers::report(file, fitter);
         self.read(file, borrowed(&expected), &Room::enough())?;
-        self.report(file, &answers::report(file, fitter), &Room::enough())?;
-        if let Ok(Trace { address, service, ranges }) = expected {
-            self.write((address, service, &Lists::of(&ranges)), Ok(file), &Room::enough())?;
+        self.report(file, &text, &Room::enough())?;
+        match expected {
+            Ok(trace) if file::has_readings(file) => self.written_as_ranges(&trace, &text),
+            Ok(trace) => self.written(&trace, file),
+            Err(_) => Ok(()),
         }
-        Ok(())
+    }
+
+    fn written(&mut self, trace: &Trace, file: &[u8]) -> Outcome {
+        let lists = Lists::of(&trace.ranges);
+        self.write((trace.address, trace.service, &lists), Ok(file), &Room::enough())
+    }
+
+    fn written_as_ranges(&mut self, trace: &Trace, text: &str) -> Outcome {
+        let file = file::bytes(trace);
+        self.tally.add("readings written as ranges", 1);
+        self.written(trace, &file)?;
+        self.read(&file, Ok(trace), &Room::enough())?;
+        self.report(&file, text, &Room::enough())
     }
 
     /// Every alteration that a call can be followed by.

@@ -15,7 +15,7 @@ pub enum Call {
 
 /// The calls by name, with the answers that the scope has for each; 0 is accepted.
 const CALLS: [(Call, &str, &[usize]); 9] = [
-    (Call::Read, "Read", &[0, 1, 2, 3, 4, 5, 6, 7, 8]),
+    (Call::Read, "Read", &[0, 1, 2, 3, 4, 5, 6, 7, 8, 11]),
     (Call::Write, "Write", &[0, 4, 5, 6, 7, 8, 10]),
     (Call::Segment, "Segment", &[0, 4, 5, 6, 7, 8, 10]),
     (Call::Corners, "Corners", &[0, 4, 5, 6, 7, 8, 9, 10]),

@@ -173,6 +173,7 @@ pub fn meaning(refusal: u8) -> &'static str {
         8 => "a lent slice to be filled, or a list of a panel, is too short",
         9 => "k is 0 or above the number of ranges",
         10 => "times, lows and highs differ in length",
+        11 => "in a file, a value of a reading is infinite or not a number, or is not a whole number of 256ths",
         12 => "no entry of the panel has the address",
         13 => "the head holds 32 ranges or more, and the panel's common places are taken",
         14 => {
@@ -183,7 +184,8 @@ pub fn meaning(refusal: u8) -> &'static str {
     }
 }
 
-/// The trace that a file's bytes hold.
+/// The trace that a file's bytes hold. Readings of a logger, in binary32, become ranges in 256ths, and nothing is
+/// rounded; the level of such a file is in 256ths as it stands.
 pub fn read(file: &[u8]) -> Result<Trace, u8> {
     let mut times = vec![0; READ_ROOM];
     let mut lows = vec![0; READ_ROOM];
@@ -206,7 +208,8 @@ pub fn read(file: &[u8]) -> Result<Trace, u8> {
 }
 
 /// The bytes of a trace's file. An address up to 255 takes one of them, a larger one two; one past 65,535 is refused
-/// with 4 and not cut. A falling trace has four bytes more, which say so, and a step above 1 has seven.
+/// with 4 and not cut. A falling trace has four bytes more, which say so, and a step above 1 has seven. The file has
+/// ranges, also where the trace was read from readings.
 pub fn write(trace: &Trace) -> Result<Vec<u8>, u8> {
     let mut file = vec![0; WRITE_ROOM];
     let mut count = 0;

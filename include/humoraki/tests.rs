@@ -175,6 +175,94 @@ fn a_step_is_refused_and_not_cut() {
     }
 }
 
+/// The bits of a value in binary32 that is not a number.
+const NOT_A_NUMBER: u32 = 0x7fc0_0000;
+
+/// A reading at a time: a spot value, or a low and a high, by their bits.
+fn spot_field(time: u32, value: u32) -> Vec<u8> {
+    [&[6, 0, 8], &time.to_be_bytes()[..], &value.to_be_bytes()].concat()
+}
+
+fn span_field(time: u32, low: u32, high: u32) -> Vec<u8> {
+    [&[7, 0, 12], &time.to_be_bytes()[..], &low.to_be_bytes(), &high.to_be_bytes()].concat()
+}
+
+/// The range that a trace of one reading has.
+fn range_behind(field: &[u8]) -> Result<(u32, i32, i32), u8> {
+    read_behind(field).map(|trace| (trace.times[0], trace.lows[0], trace.highs[0]))
+}
+
+#[test]
+fn readings_are_taken_in_256ths() {
+    assert_eq!(range_behind(&spot_field(10, 1.5_f32.to_bits())), Ok((10, 384, 384)));
+    assert_eq!(range_behind(&span_field(10, (-0.25_f32).to_bits(), 3_f32.to_bits())), Ok((10, -64, 768)));
+    assert_eq!(range_behind(&span_field(10, 0, (-0.0_f32).to_bits())), Ok((10, 0, 0)));
+    let end = 1_048_576_f32;
+    assert_eq!(range_behind(&span_field(10, (-end).to_bits(), end.to_bits())), Ok((10, -268_435_456, 268_435_456)));
+}
+
+#[test]
+fn a_value_that_is_not_whole_is_refused_with_11() {
+    for value in [1.0 / 512.0, 0.1, f32::MIN_POSITIVE, f32::INFINITY, -f32::INFINITY] {
+        assert_eq!(range_behind(&spot_field(10, value.to_bits())), Err(11));
+    }
+    for bits in [1, NOT_A_NUMBER, 0x7f80_0001, u32::MAX] {
+        assert_eq!(range_behind(&spot_field(10, bits)), Err(11));
+    }
+    for value in [1_048_576.125, -1_048_577.0, f32::MAX, f32::MIN] {
+        assert_eq!(range_behind(&spot_field(10, value.to_bits())), Err(4));
+    }
+}
+
+#[test]
+fn the_low_of_a_reading_is_tried_before_the_high() {
+    let (one, two, outside) = (1_f32.to_bits(), 2_f32.to_bits(), f32::MAX.to_bits());
+    let tried = [
+        (NOT_A_NUMBER, outside, 11),
+        (outside, NOT_A_NUMBER, 4),
+        (two, NOT_A_NUMBER, 11),
+        (two, outside, 4),
+        (two, one, 5),
+        (one, two, 6),
+    ];
+    for (low, high, number) in tried {
+        let file = [spot_field(10, one), span_field(10, low, high)].concat();
+        assert_eq!(range_behind(&file), Err(number));
+    }
+}
+
+#[test]
+fn readings_and_ranges_do_not_mix() {
+    let range = &[3, 0, 12, 0, 0, 0, 15, 0, 0, 0, 0, 0, 0, 0, 4][..];
+    let (spot, span) = (&spot_field(10, 0)[..], &span_field(20, 0, 0)[..]);
+    assert_eq!(read_behind(&[spot, span].concat()).map(|trace| trace.times), Ok(vec![10, 20]));
+    for wrong in [[spot, range], [span, range], [range, spot], [range, span], [spot, &[4, 0, 1, 1]]] {
+        assert_eq!(read_behind(&wrong.concat()), Err(2));
+    }
+    for length in [0, 7, 9, 12] {
+        assert_eq!(read_behind(&[&[6, 0, length], &spot[3..], &[0; 4]].concat()), Err(3));
+    }
+    for length in [0, 8, 11, 13] {
+        assert_eq!(read_behind(&[&[7, 0, length], &span[3..], &[0; 4]].concat()), Err(3));
+    }
+    for end in 1..spot.len() {
+        assert_eq!(read_behind(&spot[..end]), Err(1));
+    }
+}
+
+#[test]
+fn readings_are_written_as_ranges() {
+    let fields = [spot_field(10, 0.5_f32.to_bits()), span_field(20, 0.75_f32.to_bits(), 1.25_f32.to_bits())].concat();
+    let file = [&[1, 0, 1, 7, 2, 0, 4, 0, 0, 2, 128], &fields[..]].concat();
+    let trace = read(&file).unwrap();
+    assert_eq!((&trace.lows[..], &trace.highs[..]), (&[128, 192][..], &[128, 320][..]));
+    let written = write(&trace).unwrap();
+    assert_eq!((written[11], written.len()), (3, 41));
+    assert_eq!(read(&written), Ok(trace));
+    assert_eq!(report(&written), report(&file));
+    assert!(report(&file).starts_with(b"detector 7 level 640 ranges 2 segments 1\n"));
+}
+
 /// The address field of the file that Write makes.
 fn address_field(address: u32) -> Result<Vec<u8>, u8> {
     let file = write(&Trace { address, ..example() })?;
@@ -479,8 +567,18 @@ fn corners_past_the_count_hold_what_they_held() {
 }
 
 #[test]
+fn each_refusal_has_a_meaning() {
+    for number in 0..=u8::MAX {
+        let known = meaning(number) != "no refusal has this number";
+        assert_eq!(known, (1..=14).contains(&number), "{number}");
+    }
+}
+
+#[test]
 fn a_refused_file_has_a_report() {
     assert_eq!(report(&[]), b"refused 1\n");
+    let file = [&[1, 0, 1, 7, 2, 0, 4, 0, 0, 0, 20], &spot_field(10, NOT_A_NUMBER)[..]].concat();
+    assert_eq!(report(&file), b"refused 11\n");
 }
 
 #[test]

@@ -4,15 +4,17 @@
 //!
 //! LINES is the trace as text, as trace-tool shows it; REPORT is what the report program prints of
 //! it; LATEST, which may be left out, is its latest trend, as trace-tool tells it. The numbers in
-//! the picture are copied from these; only places are rounded.
+//! the picture are copied from these, and readings of a logger are drawn in 256ths, as its report has
+//! them; only places are rounded.
 
-use std::ffi::OsString;
 use std::io::{self, Write};
+use std::path::{Path, PathBuf};
 use std::process::ExitCode;
 
 mod axes;
 mod drawing;
 mod lines;
+mod readings;
 mod report_text;
 mod svg;
 
@@ -20,7 +22,7 @@ use lines::Range;
 use report_text::Run;
 
 fn main() -> ExitCode {
-    let words: Vec<OsString> = std::env::args_os().skip(1).collect();
+    let words: Vec<PathBuf> = std::env::args_os().skip(1).map(PathBuf::from).collect();
     let (lines, report, latest) = match &words[..] {
         [lines, report] => (lines, report, None),
         [lines, report, latest] => (lines, report, Some(latest)),
@@ -38,7 +40,7 @@ fn main() -> ExitCode {
     }
 }
 
-fn picture_of(lines: &OsString, report: &OsString, latest: Option<&OsString>) -> Result<String, String> {
+fn picture_of(lines: &Path, report: &Path, latest: Option<&PathBuf>) -> Result<String, String> {
     let trace = lines::parse(&text_of(lines)?)?;
     let segments = report_text::parse(&text_of(report)?)?;
     let latest = latest.map(|path| report_text::parse_latest(&text_of(path)?)).transpose()?;
@@ -79,7 +81,7 @@ fn times_of(ranges: &[Range]) -> Option<(u32, u32)> {
     ranges.first().zip(ranges.last()).map(|(first, last)| (first.time, last.time))
 }
 
-fn text_of(path: &OsString) -> Result<String, String> {
+fn text_of(path: &Path) -> Result<String, String> {
     std::fs::read_to_string(path).map_err(|error| format!("{}: {error}", path.display()))
 }
 

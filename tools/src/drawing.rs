@@ -95,7 +95,8 @@ pub fn picture(trace: &Lines, segments: &[Run], latest: Option<&Run>) -> String 
 fn title_of(trace: &Lines) -> String {
     let falling = if trace.falling { ", falling" } else { "" };
     let step = if trace.step == NO_STEP { String::new() } else { format!(", step {}", trace.step) };
-    format!("detector {}, service level {}{falling}{step}", trace.address, trace.level)
+    let unit = if trace.readings.is_empty() { "" } else { ", in 256ths" };
+    format!("detector {}, service level {}{falling}{step}{unit}", trace.address, trace.level)
 }
 
 /// Those of the last segments, and of the latest trend; what is open has none.
@@ -407,7 +408,8 @@ fn bar(shapes: &mut Shapes, low: Point, high: Point, width: f64) {
 
 /// What the legend explains, each with a sign of this width.
 const SIGN: f64 = 26.0;
-const SIGNS: [(&str, fn(&mut Shapes, f64, f64)); 6] = [
+type DrawSign = fn(&mut Shapes, f64, f64);
+const SIGNS: [(&str, DrawSign); 6] = [
     ("range", |shapes, x, y| {
         let middle = x + SIGN / 2.0;
         bar(shapes, (middle, y + 8.0), (middle, y - 8.0), WIDEST);

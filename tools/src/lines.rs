@@ -1,9 +1,12 @@
 //! Reads a trace from text: `detector ADDRESS level LEVEL`, then a line `falling` if dust lowers the
 //! signal, then a line `step SECONDS` if service can start only at the multiples of that, then a line
-//! `time low high` for each range. Blank lines do not count, nor does what follows a `#`.
+//! `time low high` for each range. Of a logger all ranges are readings instead: `reading TIME VALUE` or
+//! `reading TIME LOW HIGH`, with decimal numbers. Blank lines do not count, nor does what follows a `#`.
 //!
 //! The library turns down the same input, but by a number alone. What is tried here tells a person
 //! which line is wrong, and how.
+
+use crate::readings::{Reading, Value};
 
 /// A range: at a time, the signal lay between low and high.
 #[derive(Clone, Copy)]
@@ -19,7 +22,10 @@ pub struct Lines {
     pub level: i32,
     pub falling: bool,
     pub step: u32,
+    /// those of readings in 256ths
     pub ranges: Vec<Range>,
+    /// the readings as fields of a file, if they are what the lines have
+    pub readings: Vec<u8>,
 }
 
 const MOST_RANGES: usize = 4096;
@@ -30,6 +36,9 @@ pub const FALLING: &str = "falling";
 
 /// The word before the step, in the line after these of a trace that has one.
 pub const STEP: &str = "step";
+
+/// The word before the numbers of a reading.
+pub const READING: &str = "reading";
 
 /// The step of a trace without that line: every second will do.
 pub const NO_STEP: u32 = 1;
@@ -66,12 +75,14 @@ pub fn parse(text: &str) -> Result<Lines, String> {
         Some((number, words)) => parse_step(&words).map_err(|wrong| at_line(number, wrong))?,
         None => NO_STEP,
     };
-    let mut ranges = Vec::new();
+    let of_logger = lines.peek().is_some_and(|(_, words)| is_reading(words));
+    let (mut ranges, mut readings) = (Vec::new(), Vec::new());
     for (number, words) in lines {
-        let range = parse_next(&words, &ranges).map_err(|wrong| at_line(number, wrong))?;
+        let (range, field) = parse_next(&words, of_logger, &ranges).map_err(|wrong| at_line(number, wrong))?;
         ranges.push(range);
+        readings.extend(field);
     }
-    Ok(Lines { address, level, falling, step, ranges })
+    Ok(Lines { address, level, falling, step, ranges, readings })
 }
 
 fn at_line(number: u64, wrong: String) -> String {
@@ -100,21 +111,24 @@ fn parse_step(words: &[&str]) -> Result<u32, String> {
     Ok(STEP_SPAN.parse(seconds)? as u32)
 }
 
-/// The range that a line's words give, after the ranges before it.
-fn parse_next(words: &[&str], before: &[Range]) -> Result<Range, String> {
-    let range = parse_range(words)?;
-    let Range { time, low, high } = range;
+/// The range that a line's words give, after the ranges before it, and the field of it if it is a reading.
+fn parse_next(words: &[&str], of_logger: bool, before: &[Range]) -> Result<(Range, Vec<u8>), String> {
+    let (range, field) = match of_logger {
+        true => parse_reading(words).map(|reading| (reading.range(), reading.field()))?,
+        false => (parse_range(words)?, Vec::new()),
+    };
     if before.len() == MOST_RANGES {
         return Err(format!("one range too many; expected at most {MOST_RANGES}"));
     }
-    if low > high {
-        return Err(format!("low {low} is above high {high}; expected low at most high"));
-    }
-    match before.last() {
-        Some(last) if time <= last.time => {
-            Err(format!("time {time} is not above {}, the time before; expected rising times", last.time))
+    match (words, before.last()) {
+        // A spot value is not above itself, so the last two words are low and high.
+        ([.., low, high], _) if range.low > range.high => {
+            Err(format!("low {low} is above high {high}; expected low at most high"))
         }
-        _ => Ok(range),
+        (_, Some(Range { time, .. })) if range.time <= *time => {
+            Err(format!("time {} is not above {time}, the time before; expected rising times", range.time))
+        }
+        _ => Ok((range, field)),
     }
 }
 
@@ -126,18 +140,48 @@ fn is_step(words: &[&str]) -> bool {
     words.first() == Some(&STEP)
 }
 
-fn parse_range(words: &[&str]) -> Result<Range, String> {
-    let found = || words.join(" ");
+fn is_reading(words: &[&str]) -> bool {
+    words.first() == Some(&READING)
+}
+
+/// What a line is told that is none of those that are due.
+fn other(words: &[&str], due: &str) -> String {
+    let found = words.join(" ");
     if is_falling(words) {
-        return Err(format!("found '{FALLING}'; expected it once, directly after the first line"));
+        format!("found '{found}'; expected it once, directly after the first line")
+    } else if is_step(words) {
+        format!("found '{found}'; expected it once, before the first range")
+    } else {
+        format!("found '{found}'; expected {due}")
     }
-    if is_step(words) {
-        return Err(format!("found '{}'; expected it once, before the first range", found()));
+}
+
+fn parse_range(words: &[&str]) -> Result<Range, String> {
+    let due = "three numbers: time low high";
+    match words {
+        [READING, ..] => Err(other(words, &format!("no reading after a range, but {due}"))),
+        [time, low, high] if !is_step(words) => {
+            Ok(Range { time: parse_time(time)?, low: LOW.parse(low)? as i32, high: HIGH.parse(high)? as i32 })
+        }
+        _ => Err(other(words, due)),
     }
-    let [time, low, high] = words else {
-        return Err(format!("found '{}'; expected three numbers: time low high", found()));
-    };
-    Ok(Range { time: TIME.parse(time)? as u32, low: LOW.parse(low)? as i32, high: HIGH.parse(high)? as i32 })
+}
+
+fn parse_reading(words: &[&str]) -> Result<Reading, String> {
+    match words {
+        [READING, time, value] => {
+            Ok(Reading { time: parse_time(time)?, low: Value::parse("value", value)?, high: None })
+        }
+        [READING, time, low, high] => {
+            let (time, low) = (parse_time(time)?, Value::parse(LOW.name, low)?);
+            Ok(Reading { time, low, high: Some(Value::parse(HIGH.name, high)?) })
+        }
+        _ => Err(other(words, "a reading: reading TIME VALUE, or reading TIME LOW HIGH")),
+    }
+}
+
+fn parse_time(word: &str) -> Result<u32, String> {
+    Ok(TIME.parse(word)? as u32)
 }
 
 impl Span {

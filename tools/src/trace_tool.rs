@@ -4,13 +4,16 @@
 //!     trace-tool show < FILE > LINES
 //!     trace-tool latest < FILE > LATEST
 //!
-//! The file itself is written and read by the proved library, which finds the trend too.
+//! The file itself is written and read by the proved library, which finds the trend too. Readings of a logger are
+//! written here, as the library writes ranges only; it reads them before they are sent.
 
 use std::ffi::OsStr;
 use std::io::{self, Read, Write};
 use std::process::ExitCode;
 
 mod lines;
+mod reading_text;
+mod readings;
 mod trend_text;
 
 use humoraki::{Direction, Trace};
@@ -21,7 +24,9 @@ const USAGE: &str = "usage: trace-tool make < LINES > FILE
        trace-tool latest < FILE > LATEST
 LINES: first 'detector ADDRESS level LEVEL', then 'falling' if dust lowers the signal, then
        'step SECONDS' if service can start only at the multiples of that, then 'time low high'
-       for each range; blank lines do not count, nor does what follows a '#'
+       for each range, or, of a logger, 'reading TIME VALUE' or 'reading TIME LOW HIGH' for each,
+       in decimals that are whole in 256ths, with the level in 256ths; blank lines do not count,
+       nor does what follows a '#'
 LATEST: the longest run at the end that some line fits, in the words of a report";
 
 /// The report program reads this much of a file; later bytes cannot matter.
@@ -54,27 +59,48 @@ fn make() -> Result<Vec<u8>, String> {
     io::stdin()
         .read_to_string(&mut text)
         .map_err(|error| format!("standard input does not read as text: {error}"))?;
-    let trace = trace_of(&lines::parse(&text)?);
-    humoraki::write(&trace).map_err(refused)
+    let lines = lines::parse(&text)?;
+    let trace = trace_of(&lines);
+    if lines.readings.is_empty() {
+        return humoraki::write(&trace).map_err(refused);
+    }
+    let file = [header_of(&trace)?, lines.readings].concat();
+    match humoraki::read(&file).map_err(refused)? == trace {
+        true => Ok(file),
+        false => Err("the file that was made holds another trace".to_string()),
+    }
+}
+
+/// The bytes of a trace's file before its ranges.
+fn header_of(trace: &Trace) -> Result<Vec<u8>, String> {
+    let header = Trace { times: Vec::new(), lows: Vec::new(), highs: Vec::new(), ..*trace };
+    humoraki::write(&header).map_err(refused)
 }
 
 /// The lines of the trace file on standard input.
 fn show() -> Result<Vec<u8>, String> {
-    Ok(text_of(&read()?).into_bytes())
+    let file = input()?;
+    let trace = humoraki::read(&file).map_err(refused)?;
+    let fields = &file[header_of(&trace)?.len()..];
+    let ranges = match reading_text::are_readings(fields) {
+        true => reading_text::text_of(&trace, fields),
+        false => ranges_text(&trace),
+    };
+    Ok((header_text(&trace) + &ranges).into_bytes())
 }
 
 /// The latest trend of the trace file on standard input.
 fn latest() -> Result<Vec<u8>, String> {
-    let trace = read()?;
+    let trace = humoraki::read(&input()?).map_err(refused)?;
     let trend = humoraki::latest(&trace).map_err(refused)?;
     Ok(trend_text::text_of(&trace, &trend).into_bytes())
 }
 
-/// The trace of the file on standard input.
-fn read() -> Result<Trace, String> {
+/// The file on standard input.
+fn input() -> Result<Vec<u8>, String> {
     let mut file = Vec::new();
     io::stdin().take(MOST_BYTES).read_to_end(&mut file).map_err(|error| format!("standard input: {error}"))?;
-    humoraki::read(&file).map_err(refused)
+    Ok(file)
 }
 
 fn send(bytes: &[u8]) -> Result<(), String> {
@@ -98,8 +124,8 @@ fn trace_of(lines: &Lines) -> Trace {
     }
 }
 
-/// The lines of a trace, as `lines::parse` reads them.
-fn text_of(trace: &Trace) -> String {
+/// The lines of a trace before its ranges, as `lines::parse` reads them.
+fn header_text(trace: &Trace) -> String {
     let mut text = format!("detector {} level {}\n", trace.address, trace.level);
     if trace.direction == Direction::Falling {
         text += &format!("{FALLING}\n");
@@ -107,8 +133,10 @@ fn text_of(trace: &Trace) -> String {
     if trace.step != NO_STEP {
         text += &format!("{STEP} {}\n", trace.step);
     }
-    for ((time, low), high) in trace.times.iter().zip(&trace.lows).zip(&trace.highs) {
-        text += &format!("{time} {low} {high}\n");
-    }
     text
+}
+
+fn ranges_text(trace: &Trace) -> String {
+    let ranges = trace.times.iter().zip(&trace.lows).zip(&trace.highs);
+    ranges.map(|((time, low), high)| format!("{time} {low} {high}\n")).collect()
 }

@@ -5,6 +5,7 @@ use crate::desk::Desk;
 use crate::difference::Outcome;
 use crate::file;
 use crate::segments::BY_TRYING;
+use crate::traces::readings::readings;
 use crate::traces::small::small_trace;
 
 /// How many small files are cut off at every byte.
@@ -20,6 +21,8 @@ pub fn compare(desk: &mut Desk, files: usize) -> Outcome {
     for _ in 0..CUT_FILES {
         let trace = small_trace(&mut desk.random);
         every_cut(desk, &file::bytes(&trace))?;
+        let readings = readings(&trace.ranges, &mut desk.random);
+        every_cut(desk, &file::bytes_with(&trace, &readings))?;
         let file = damaged(&trace, &mut desk.random);
         every_cut(desk, &file)?;
     }

@@ -23,7 +23,7 @@ pub const FIRST: &[u8] = &[3, 0, 12, 0, 0, 0, 10, 0, 0, 0, 36, 0, 0, 0, 40];
 const SECOND: &[u8] = &[3, 0, 12, 0, 0, 0, 20, 0, 0, 0, 32, 0, 0, 0, 36];
 
 /// Tags that are tried with each length and each body.
-const TAGS: [u8; 8] = [0, 1, 2, 3, 4, 5, 6, 255];
+const TAGS: [u8; 10] = [0, 1, 2, 3, 4, 5, 6, 7, 8, 255];
 
 /// Read, report and Write on a header without ranges, with one and with two, counted by whether it is turned down.
 pub fn before_ranges(desk: &mut Desk, header: &[u8], names: [&str; 2]) -> Outcome {
@@ -72,7 +72,7 @@ fn with_one<'a>(fields: &[&'a [u8]], field: &'a [u8]) -> Vec<Vec<&'a [u8]>> {
 }
 
 /// A file that ends at each byte from here on.
-fn every_end(desk: &mut Desk, file: &[u8], from: usize, name: &str) -> Outcome {
+pub fn every_end(desk: &mut Desk, file: &[u8], from: usize, name: &str) -> Outcome {
     for end in from..=file.len() {
         desk.file(&file[..end], BY_TRYING)?;
         desk.tally.add(name, 1);

@@ -19,6 +19,8 @@ pub mod panel_faults;
 pub mod preview_cases;
 pub mod preview_faults;
 pub mod previews;
+pub mod reading_cases;
+pub mod readings;
 pub mod samples;
 pub mod shifts;
 pub mod short_slices;

@@ -100,7 +100,7 @@ fn stepped(desk: &mut Desk) -> Outcome {
 }
 
 /// The field of address 7.
-const ADDRESS: &[u8] = ADDRESSES[0];
+pub const ADDRESS: &[u8] = ADDRESSES[0];
 
 /// The report of a file with this, level 20 and no range.
 const NO_RANGES: &str = "detector 7 level 20 ranges 0 segments 0\n";
@@ -224,7 +224,7 @@ fn times(
     desk.segment(service, &lists, borrowed(&expected), &Room::enough())
 }
 
-fn report(desk: &mut Desk, file: &[u8], scope: &str) -> Outcome {
+pub fn report(desk: &mut Desk, file: &[u8], scope: &str) -> Outcome {
     let lists = Lists::of(&file::visible(file).ranges);
     agree(scope.to_string(), answers::report(file, BY_TRYING), &lists)?;
     desk.tally.add("worked cases of the scope", 1);

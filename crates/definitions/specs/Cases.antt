@@ -5,7 +5,7 @@
 --
 -- Assumes nothing.
 use mathlib.Core.Path.{_≡_, refl}
-use Prim.Native.Nat.{ℕ, zero, suc}
+use Prim.Native.Nat.{ℕ, zero, suc, _+_}
 use mathlib.Core.List.{List, [], _∷_, _++_, map, getLastD}
 use lib.ListN.{length, drop, replicate}
 use lib.IntN.{ℤ, pos, negℤ}
@@ -29,9 +29,11 @@ use Rattle.definitions.specs.Results.{Segment, segmentOf, segmentsOf, ro
 use Rattle.definitions.specs.Answers.{Answer, refused, accepted, _>>=_, firstRow}
 use Rattle.definitions.specs.Trial.{outside, badAddress, badDirection, badStep, notAbove, rangeRows, rangesRows, tooShort, differ, listRows, writeRows, segmentRows, latestRows, cornerRows}
 use Rattle.definitions.specs.FileNumbers.{word, bytes4, signed, unsigned}
+use Rattle.definitions.specs.Binary32.{parts256, notWhole, in256ths}
+use Rattle.definitions.specs.Readings.{lowBits, highBits, readingRange, readingRows, readingIn}
 use Rattle.definitions.specs.FieldKinds.{field, fieldTag, fieldSize, fieldBody, fieldRest, fieldRows, takeField, optionalBy, optional, optionalField}
 use Rattle.definitions.specs.HeaderFields.{addressOf, addressBody, levelOf, directionIn, stepIn, addressKind, levelKind, directionKind, stepKind, readHeader, writeHeader}
-use Rattle.definitions.specs.TraceFile.{Trace, rangeOf, rangeForm, rangeKind, readFields, readFile, writeRanges, writeFile}
+use Rattle.definitions.specs.TraceFile.{Trace, rangeOf, rangeForm, readingTag, readingForm, formOf, rangeKind, readFields, readFile, writeRanges, writeFile}
 use Rattle.definitions.specs.Calls.{Fit, bounded, fitOf, cornersIn, readCall, writeCall, segmentCall, cornersCall}
 use Rattle.definitions.specs.Previews.{longer, Effect, joins, begins, lastOutlook, effectOf, previewCall}
 use Rattle.definitions.specs.Latest.{latestBy, latestRun, Trend, trendOf, latestCall}
@@ -167,6 +169,52 @@ beamFile = header11 ++ directionField 1 ++ rangeField 10 36 40 ++ rangeField 20 
 -- the sample with a step of 25, of 93 bytes
 abbrev steppedFile : List ℕ
 steppedFile = header11 ++ stepField 0 0 0 25 ++ rangeField 10 0 4 ++ rangeField 20 4 8 ++ rangeField 30 10 14 ++ rangeField 40 9 11 ++ rangeField 50 9 12
+
+-- a field of tag 6 and one of tag 7, with a time below 256 and the bits of their values
+abbrev spotField : ℕ → ℕ → List ℕ
+spotField t b = 6 ∷ 0 ∷ 8 ∷ 0 ∷ 0 ∷ 0 ∷ t ∷ bytes4 b
+
+abbrev spanField : ℕ → ℕ → ℕ → List ℕ
+spanField t a b = 7 ∷ 0 ∷ 12 ∷ 0 ∷ 0 ∷ 0 ∷ t ∷ bytes4 a ++ bytes4 b
+
+-- values in binary32: 1, 1.5 and 2; minus zero; a 256th and half of one
+abbrev float1 : ℕ
+float1 = 0x3f80_0000
+
+abbrev float1½ : ℕ
+float1½ = 0x3fc0_0000
+
+abbrev float2 : ℕ
+float2 = 0x4000_0000
+
+abbrev minusZero : ℕ
+minusZero = 0x8000_0000
+
+abbrev float256th : ℕ
+float256th = 0x3b80_0000
+
+abbrev float512th : ℕ
+float512th = 0x3b00_0000
+
+-- 1,048,576, which is the end of the span, and the next above it; the largest of all
+abbrev floatMost : ℕ
+floatMost = 0x4980_0000
+
+abbrev floatAbove : ℕ
+floatAbove = 0x4980_0001
+
+abbrev floatLargest : ℕ
+floatLargest = 0x7f7f_ffff
+
+abbrev infinite : ℕ
+infinite = 0x7f80_0000
+
+abbrev notANumber : ℕ
+notANumber = 0x7fc0_0000
+
+-- address 7 and level 640, which is 2.5 in 256ths; 0.5 at 10, 0.75 to 1.25 at 20, 1.5 at 30
+abbrev loggerFile : List ℕ
+loggerFile = 1 ∷ 0 ∷ 1 ∷ 7 ∷ 2 ∷ 0 ∷ 4 ∷ 0 ∷ 0 ∷ 2 ∷ 128 ∷ spotField 10 0x3f00_0000 ++ spanField 20 0x3f40_0000 0x3fa0_0000 ++ spotField 30 float1½
 
 -- a signal that falls from 10 at time 0 to 9 at time 10
 abbrev fallsBack : Lists
@@ -404,8 +452,44 @@ table =
     (ascii "detector 7 level 20 ranges 5 segments 2\n"
     ++ ascii "segment 1 from 10 to 30 ranges 3 slow 3 10 10 fast 7 -70 10 some 50 all 75\n"
     ++ ascii "segment 2 from 40 to 50 ranges 2 slow -1 95 5 fast 3 -30 10 some 100 all none\n")
+    ∷ read loggerFile gives opened (accepted (record { head = record { address = 7; service = rise (pos 640) }; ranges = range 10 (pos 128) (pos 128) ∷ range 20 (pos 192) (pos 320) ∷ range 30 (pos 384) (pos 384) ∷ [] }))
+    ∷ read (header11 ++ directionField 1 ++ stepField 0 0 0 25 ++ spanField 10 float1 float2) gives opened (accepted (record { head = record { address = 7; service = every 25 (fall (pos 20)) }; ranges = range 10 (pos 256) (pos 512) ∷ [] }))
+    ∷ read (header11 ++ spotField 10 minusZero) gives traceIs 7 (range 10 (pos 0) (pos 0) ∷ [])
+    ∷ read (header11 ++ spanField 10 0 minusZero) gives traceIs 7 (range 10 (pos 0) (pos 0) ∷ [])
+    ∷ read (header11 ++ spanField 10 (minusZero + float256th) float256th) gives traceIs 7 (range 10 (minus 1) (pos 1) ∷ [])
+    ∷ read (header11 ++ spotField 10 float512th) gives opened (refused 11)
+    ∷ read (header11 ++ spotField 10 1) gives opened (refused 11)
+    ∷ read (header11 ++ spanField 10 (minusZero + floatMost) floatMost) gives traceIs 7 (range 10 (minus 268435456) (pos 268435456) ∷ [])
+    ∷ read (header11 ++ spotField 10 floatAbove) gives opened (refused 4)
+    ∷ read (header11 ++ spotField 10 floatLargest) gives opened (refused 4)
+    ∷ read (header11 ++ spotField 10 (minusZero + floatAbove)) gives opened (refused 4)
+    ∷ read (header11 ++ spotField 10 (minusZero + floatLargest)) gives opened (refused 4)
+    ∷ read (header11 ++ spotField 10 infinite) gives opened (refused 11)
+    ∷ read (header11 ++ spotField 10 (minusZero + infinite)) gives opened (refused 11)
+    ∷ read (header11 ++ spotField 10 notANumber) gives opened (refused 11)
+    ∷ read (header11 ++ spotField 10 (infinite + 1)) gives opened (refused 11)
+    ∷ read (header11 ++ spanField 10 floatAbove notANumber) gives opened (refused 4)
+    ∷ read (header11 ++ spanField 10 notANumber floatAbove) gives opened (refused 11)
+    ∷ read (header11 ++ spanField 10 float1 notANumber) gives opened (refused 11)
+    ∷ read (header11 ++ spanField 10 float1 floatAbove) gives opened (refused 4)
+    ∷ read (header11 ++ spanField 10 float2 float1) gives opened (refused 5)
+    ∷ read (header11 ++ spotField 10 float1 ++ spotField 10 notANumber) gives opened (refused 11)
+    ∷ read (header11 ++ spotField 10 float1 ++ spanField 10 float2 notANumber) gives opened (refused 11)
+    ∷ read (header11 ++ spotField 10 float1 ++ spanField 10 float2 float1) gives opened (refused 5)
+    ∷ read (header11 ++ spanField 10 float1 float2 ++ spotField 10 float1) gives opened (refused 6)
+    ∷ read (header11 ++ spotField 10 float1 ++ rangeField 20 0 4) gives opened (refused 2)
+    ∷ read (header11 ++ spanField 10 float1 float2 ++ rangeField 20 0 4) gives opened (refused 2)
+    ∷ read (header11 ++ rangeField 10 0 4 ++ spotField 20 float1) gives opened (refused 2)
+    ∷ read (header11 ++ rangeField 10 0 4 ++ spanField 20 float1 float2) gives opened (refused 2)
+    ∷ read (header11 ++ spotField 10 float1 ++ directionField 1) gives opened (refused 2)
+    ∷ read (header11 ++ spanField 10 float1 float2 ++ stepField 0 0 0 25) gives opened (refused 2)
+    ∷ read (header11 ++ (6 ∷ 0 ∷ 12 ∷ [])) gives opened (refused 3)
+    ∷ read (header11 ++ (7 ∷ 0 ∷ 8 ∷ [])) gives opened (refused 3)
+    ∷ read (header11 ++ (6 ∷ 0 ∷ 8 ∷ 0 ∷ 0 ∷ 0 ∷ 10 ∷ 127 ∷ 192 ∷ 0 ∷ [])) gives opened (refused 1)
+    ∷ print loggerFile gives textIs (ascii "detector 7 level 640 ranges 3 segments 1\nsegment 1 from 10 to 30 ranges 3 slow 64 0 5 fast 64 0 5 some 50 all 50\n")
+    ∷ print (header11 ++ spotField 10 notANumber) gives textIs (ascii "refused 11\n")
     ∷ []
 
 pub table-holds : map (λ c. run (callOf c)) table ≡ map resultOf table
-unfolding table run callOf resultOf all any filter reading fitsRange fits sideAt atOrAbove atOrBelow through throughEnds candidatesFrom candidates hasLine euclid gcd commonDivisor reduced before side between betweenSome insert sorted fitting extreme getLastD cornerOrder corners cutFrom cut lastRun segments runningAfter scan firstByEnds first ceilDivℕ fromTurn toTurn firstMultiple directionOf passed hasReached someTime allTime outlookOf endTime outlook segmentOf segmentsOf _>>=_ firstRow outside badAddress badDirection badStep notAbove rangeRows rangesRows tooShort zipRanges rangesOf differ listRows writeRows segmentRows latestRows cornerRows word bytes4 signed unsigned field fieldTag fieldSize fieldBody fieldRest fieldRows takeField optionalBy optional optionalField addressOf addressBody levelOf directionIn stepIn addressKind levelKind directionKind stepKind readHeader writeHeader rangeOf rangeForm rangeKind readFields readFile writeRanges writeFile fitOf cornersIn readCall writeCall segmentCall cornersCall digitsWithin decimal signedDecimal timeText lineText outlookText spanText segmentLine segmentLines traceLine refusedLine traceText reportText report reportCall totalHeld commonTaken isAt either heldBy zipTaken taken onPanel kept headRanges lastTime countedIn occurrences twice outsideAddress miscounted badPanel notPanel unknown crowded roomOf panelRows addRows bumped entriesAfter putAt added addCall headRangesCall longer lastOutlook effectOf previewCall latestBy latestRun trendOf latestCall
+unfolding table run callOf resultOf all any filter reading fitsRange fits sideAt atOrAbove atOrBelow through throughEnds candidatesFrom candidates hasLine euclid gcd commonDivisor reduced before side between betweenSome insert sorted fitting extreme getLastD cornerOrder corners cutFrom cut lastRun segments runningAfter scan firstByEnds first ceilDivℕ fromTurn toTurn firstMultiple directionOf passed hasReached someTime allTime outlookOf endTime outlook segmentOf segmentsOf _>>=_ firstRow outside badAddress badDirection badStep notAbove rangeRows rangesRows tooShort zipRanges rangesOf differ listRows writeRows segmentRows latestRows cornerRows word bytes4 signed unsigned field fieldTag fieldSize fieldBody fieldRest fieldRows takeField optionalBy optional optionalField addressOf addressBody levelOf directionIn stepIn addressKind levelKind directionKind stepKind readHeader writeHeader parts256 notWhole in256ths lowBits highBits readingRange readingRows readingIn rangeOf rangeForm readingTag readingForm formOf rangeKind readFields readFile writeRanges writeFile fitOf cornersIn readCall writeCall segmentCall cornersCall digitsWithin decimal signedDecimal timeText lineText outlookText spanText segmentLine segmentLines traceLine refusedLine traceText reportText report reportCall totalHeld commonTaken isAt either heldBy zipTaken taken onPanel kept headRanges lastTime countedIn occurrences twice outsideAddress miscounted badPanel notPanel unknown crowded roomOf panelRows addRows bumped entriesAfter putAt added addCall headRangesCall longer lastOutlook effectOf previewCall latestBy latestRun trendOf latestCall
 table-holds = refl

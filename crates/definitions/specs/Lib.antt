@@ -13,6 +13,8 @@ pub mod Results
 pub mod Answers
 pub mod Trial
 pub mod FileNumbers
+pub mod Binary32
+pub mod Readings
 pub mod FieldKinds
 pub mod HeaderFields
 pub mod TraceFile

@@ -4,6 +4,7 @@ mod addresses; // addresses.rt: the address field with each length and each faul
 mod alone; // alone.rt: a file read into lists of its own
 mod changes; // changes.rt: the sample, and each change of a byte in a table
 mod directions; // directions.rt: the direction field with each fault
+mod readings; // readings.rt: readings of a logger
 mod sizes; // sizes.rt: files and lists of other lengths
 mod steps; // steps.rt: the step field with each fault
 
@@ -12,6 +13,7 @@ fn main() {
     addresses::all();
     directions::all();
     steps::all();
+    readings::all();
     sizes::files();
     sizes::lists();
 }

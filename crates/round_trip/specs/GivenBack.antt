@@ -2,12 +2,16 @@
 --
 --     given-lists-back       the lists that Write accepted come back, entry by entry, with the record of their trace
 --     given-lists-refused    of what Write refuses nothing is read: its number, and every slice as it was
---     given-bytes-back       the file that Read accepted comes back, byte by byte, with the count of its bytes
+--     given-file-back        of the file that Read accepted what comes back stands first, with the count of its bytes
+--     given-bytes-back       without readings that is the file, byte by byte
+--     given-bytes-exactly    and only without them
+--     given-trace-back       with readings or without, it is read as the same trace
 --     given-bytes-refused    of what Read refuses nothing is written: its number, and every slice as it was
 --
 -- Assumes nothing.
-use mathlib.Core.Path.{_≡_, refl, sym, ap, _∙_}
-use mathlib.Core.Bool.{false}
+use mathlib.Core.Path.{_≡_, refl, sym, ap, _∙_, subst}
+use mathlib.Core.Logic.{_↔_}
+use mathlib.Core.Bool.{Bool, true, false, cond}
 use mathlib.Core.List.{List, [], _∷_}
 use Prim.Native.Nat.{ℕ}
 use lib.IntN.{ℤ}
@@ -17,14 +21,17 @@ use Rattle.definitions.specs.Ranges.{Lists}
 use Rattle.definitions.specs.Headers.{Header}
 use Rattle.definitions.specs.Answers.{Answer, refused, accepted, _>>=_, firstRow, filled}
 use Rattle.definitions.specs.Trial.{tooShort}
-use Rattle.definitions.specs.TraceFile.{Trace}
+use Rattle.definitions.specs.TraceFile.{Trace, writeFile}
 use Rattle.trial_laws.specs.RangeLists.{same-length}
+use Rattle.trace_laws.specs.FileRows.{readingFile}
+use Rattle.trace_laws.specs.ReadWrite.{written-no-readings}
 use Rattle.trace_laws.specs.RoundTrip.{traceOf, written}
+use Rattle.trace_laws.specs.TraceLaws.{read-tried}
 use Rattle.trace.specs.declared.ReadAnswer as R
 use Rattle.trace.specs.declared.WriteAnswer as W
 use Rattle.trace.specs.Promises.{readMeaning, writeMeaning, recordOf, readInto, writeInto}
 use Rattle.trace.specs.BothWays.{fill-front, firstOf}
-use Rattle.round_trip.specs.Promises.{longEnough, listsBack, bytesBack, WriteReadPromise, ReadWritePromise}
+use Rattle.round_trip.specs.Promises.{longEnough, listsBack, rewritten, bytesBack, WriteReadPromise, ReadWritePromise}
 
 long-enough : (least : ℕ) (lengths : List ℕ) → tooShort least lengths ≡ false → longEnough least lengths ≡ accepted tt
 unfolding firstRow
@@ -67,18 +74,33 @@ module _ {h : Header} {lists : Lists} {file₀ times₀ : List ℕ} {lows₀ hig
 
 module _ {file times₀ : List ℕ} {lows₀ highs₀ : List ℤ} {copy₀ times : List ℕ} {lows highs : List ℤ} {copy : List ℕ} {w : W.WriteAnswer}
     (promise : ReadWritePromise file times₀ lows₀ highs₀ copy₀ times lows highs copy w) where
-  bytes-accepted : (t : Trace) → readInto times₀ lows₀ highs₀ file ≡ accepted t → tooShort writeRoom (length copy₀ ∷ []) ≡ false → bytesBack file times₀ lows₀ highs₀ copy₀ ≡ accepted file
-  unfolding _>>=_
-  bytes-accepted t e room =
-      ap (λ a. a >>= λ t. longEnough writeRoom (length copy₀ ∷ []) >>= λ ok. accepted file) e ∙ ap (λ (a : Answer Unit). a >>= λ ok. accepted file) (long-enough writeRoom (length copy₀ ∷ []) room)
+  module _ (t : Trace) (e : readInto times₀ lows₀ highs₀ file ≡ accepted t) (room : tooShort writeRoom (length copy₀ ∷ []) ≡ false) where
+    bytes-accepted : bytesBack file times₀ lows₀ highs₀ copy₀ ≡ accepted (rewritten file t)
+    unfolding _>>=_
+    bytes-accepted =
+        ap (λ a. a >>= λ t. longEnough writeRoom (length copy₀ ∷ []) >>= λ ok. accepted (rewritten file t)) e
+        ∙ ap (λ (a : Answer Unit). a >>= λ ok. accepted (rewritten file t)) (long-enough writeRoom (length copy₀ ∷ []) room)
 
-  pub given-bytes-back : (t : Trace) → readInto times₀ lows₀ highs₀ file ≡ accepted t → tooShort writeRoom (length copy₀ ∷ []) ≡ false → (writeMeaning w ≡ accepted (length file)) × (take (length file) copy ≡ file)
-  unfolding _>>=_
-  given-bytes-back t e room =
-      let is = bytes-accepted t e room in (
-        promise .answer-is ∙ ap (λ a. a >>= λ bytes. accepted (length bytes)) is,
-        fill-front (bytesBack file times₀ lows₀ highs₀ copy₀) (λ bytes. bytes) copy₀ copy file is (promise .copy-is),
-      )
+    pub given-file-back : (writeMeaning w ≡ accepted (length (rewritten file t))) × (take (length (rewritten file t)) copy ≡ rewritten file t)
+    unfolding _>>=_
+    given-file-back = (
+      promise .answer-is ∙ ap (λ a. a >>= λ bytes. accepted (length bytes)) bytes-accepted,
+      fill-front (bytesBack file times₀ lows₀ highs₀ copy₀) (λ bytes. bytes) copy₀ copy (rewritten file t) bytes-accepted (promise .copy-is),
+    )
+
+    pub given-bytes-back : readingFile file ≡ false → (writeMeaning w ≡ accepted (length file)) × (take (length file) copy ≡ file)
+    given-bytes-back plain = subst (λ bytes. (writeMeaning w ≡ accepted (length bytes)) × (take (length bytes) copy ≡ bytes)) (ap (λ (b : Bool). cond b (writeFile t) file) plain) given-file-back
+
+    -- readings are written as ranges, and then there are none
+    pub given-bytes-exactly : (readingFile file ≡ false) ↔ (take (length (rewritten file t)) copy ≡ file)
+    given-bytes-exactly = (λ plain. given-file-back .1 ∙ ap (λ (b : Bool). cond b (writeFile t) file) plain, λ same. by (readingFile file) refl (sym (given-file-back .1) ∙ same))
+      where
+        by : (readings : Bool) → readingFile file ≡ readings → cond readings (writeFile t) file ≡ file → readingFile file ≡ false
+        by true is same = ap readingFile (sym same) ∙ written-no-readings t (read-tried (length times₀ ∷ length lows₀ ∷ length highs₀ ∷ []) file t e .head-in)
+        by false is same = is
+
+    pub given-trace-back : readInto times₀ lows₀ highs₀ (take (length (rewritten file t)) copy) ≡ accepted t
+    given-trace-back = ap (readInto times₀ lows₀ highs₀) (given-file-back .1) ∙ promise .same-trace t e
 
   pub given-bytes-refused : (n : ℕ) → readInto times₀ lows₀ highs₀ file ≡ refused n → (writeMeaning w ≡ refused n) × (times ≡ times₀) × (lows ≡ lows₀) × (highs ≡ highs₀) × (copy ≡ copy₀)
   unfolding _>>=_ filled

@@ -7,22 +7,26 @@
 --
 -- Assumes nothing.
 use mathlib.Core.Path.{_≡_, refl, sym, ap, _∙_}
-use mathlib.Core.Bool.{Bool, true, false}
+use mathlib.Core.Bool.{Bool, true, false, cond}
 use mathlib.Core.List.{List, [], _∷_, _++_, map}
 use Prim.Native.Nat.{ℕ}
 use lib.IntN.{ℤ}
 use lib.ListN.{length, take, drop}
+use Rattle.integers.specs.Lists.{any}
 use Rattle.definitions.specs.Spans.{readRoom, writeRoom}
 use Rattle.definitions.specs.Ranges.{Lists}
 use Rattle.definitions.specs.Headers.{Header}
 use Rattle.definitions.specs.Answers.{Answer, refused, accepted, _>>=_, firstRow, filled}
 use Rattle.definitions.specs.Trial.{tooShort, listRows, writeRows}
-use Rattle.definitions.specs.TraceFile.{Trace}
+use Rattle.definitions.specs.TraceFile.{Trace, writeFile}
 use Rattle.definitions.specs.Calls.{readCall, writeCall}
 use Rattle.trial_laws.specs.RangeLists.{listsOf}
-use Rattle.trial_laws.specs.CallLaws.{then-then, bind-refused}
+use Rattle.trial_laws.specs.Rows.{refused-not-accepted}
+use Rattle.trial_laws.specs.CallLaws.{then-then, bind-refused, accepted-is}
 use Rattle.trace_laws.specs.Numbers.{Bytes, Words}
 use Rattle.trace_laws.specs.RoundTrip.{traceOf}
+use Rattle.trace_laws.specs.FileRows.{readingFile}
+use Rattle.trace_laws.specs.TraceLaws as Laws
 use Rattle.trace_laws.specs.TraceLaws.{lists-back}
 use Rattle.trace.specs.declared.TraceRecord.{TraceRecord}
 use Rattle.trace.specs.declared.ReadAnswer as R
@@ -31,7 +35,7 @@ use Rattle.trace.specs.declared.WriteAnswer as W
 use Rattle.trace.specs.declared.WriteAnswer.the-variants as WriteCase
 use Rattle.trace.specs.Promises.{readMeaning, writeMeaning, recordOf, headOf, readInto, writeInto, ReadPromise, WritePromise}
 use Rattle.trace.specs.BothWays.{firstOf, bytes-written, trace-read, read-back, write-back}
-use Rattle.round_trip.specs.Promises.{longEnough, listsBack, bytesBack, WriteReadPromise, ReadWritePromise}
+use Rattle.round_trip.specs.Promises.{longEnough, listsBack, rewritten, bytesBack, WriteReadPromise, ReadWritePromise}
 
 -- a call that tries its slices before all else
 by-room : {A : Type 0} (least : ℕ) (lengths : List ℕ) (call : Answer A) (a : A) → (tooShort least lengths ≡ true → call ≡ refused 8) → (tooShort least lengths ≡ false → call ≡ accepted a)
@@ -113,17 +117,29 @@ pub promise-not-read : {bs times₀ times : List ℕ} {lows₀ lows highs₀ hig
 unfolding writeMeaning readMeaning _>>=_ filled
 promise-not-read {bs} {times₀} {lows₀ = lows₀} {highs₀ = highs₀} {n = n} copy₀ read =
     let is = bind-refused (readInto times₀ lows₀ highs₀ bs) recordOf n (sym (read .answer-is)) in
-    record { answer-is = rw is refl; times-are = read .times-are; lows-are = read .lows-are; highs-are = read .highs-are; copy-is = rw is refl }
+    record { answer-is = rw is refl; times-are = read .times-are; lows-are = read .lows-are; highs-are = read .highs-are; copy-is = rw is refl; same-trace = λ t e. refused-not-accepted (sym is ∙ e) }
 
 module _ {bs times₀ times : List ℕ} {lows₀ lows highs₀ highs : List ℤ} {known : TraceRecord} (read : ReadPromise bs times₀ lows₀ highs₀ times lows highs (ReadCase.Accepted known)) (bytes : Bytes bs)
     {copy₀ copy : List ℕ} {w : W.WriteAnswer} (written : WritePromise (headOf known) (firstOf (known .ranges) times lows highs) copy₀ copy w) where
+  abbrev slices : List ℕ
+  slices = length times₀ ∷ length lows₀ ∷ length highs₀ ∷ []
+
+  -- the file of the trace that was read, whether it has readings or not
+  rewritten-is : (t : Trace) → readInto times₀ lows₀ highs₀ bs ≡ accepted t → writeFile t ≡ rewritten bs t
+  unfolding tooShort any
+  rewritten-is t e = by (readingFile bs) refl
+    where
+      by : (readings : Bool) → readingFile bs ≡ readings → writeFile t ≡ cond readings (writeFile t) bs
+      by true is = refl
+      by false is = accepted-is (sym (Laws.read-write [] slices bs t bytes refl e) ∙ Laws.bytes-back [] slices bs t bytes refl e .0 is)
+
   write-is : writeInto copy₀ (headOf known) (firstOf (known .ranges) times lows highs) ≡ bytesBack bs times₀ lows₀ highs₀ copy₀
   unfolding _>>=_
   write-is =
       let (t, e, f) = trace-read read in
       let lists = firstOf (known .ranges) times lows highs in
-      by-room writeRoom (length copy₀ ∷ []) (writeInto copy₀ (headOf known) lists) bs (write-short (length copy₀ ∷ []) (headOf known) lists) (write-back read bytes written)
-      ∙ sym (ap (λ a. a >>= λ t. longEnough writeRoom (length copy₀ ∷ []) >>= λ ok. accepted bs) e)
+      by-room writeRoom (length copy₀ ∷ []) (writeInto copy₀ (headOf known) lists) (rewritten bs t) (write-short (length copy₀ ∷ []) (headOf known) lists) (λ long. write-back read bytes written long t e ∙ ap accepted (rewritten-is t e))
+      ∙ sym (ap (λ a. a >>= λ t. longEnough writeRoom (length copy₀ ∷ []) >>= λ ok. accepted (rewritten bs t)) e)
 
   pub promise-read : ReadWritePromise bs times₀ lows₀ highs₀ copy₀ times lows highs copy w
   promise-read = record {
@@ -132,4 +148,5 @@ module _ {bs times₀ times : List ℕ} {lows₀ lows highs₀ highs : List ℤ}
     lows-are = read .lows-are;
     highs-are = read .highs-are;
     copy-is = written .file-is ∙ ap (λ a. filled a (λ bytes. bytes) copy₀) write-is;
+    same-trace = λ t e. ap (readInto times₀ lows₀ highs₀) (sym (rewritten-is t e)) ∙ Laws.read-again slices bs t bytes e;
   }

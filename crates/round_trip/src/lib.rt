@@ -28,7 +28,8 @@ pub fn write_then_read(
     }
 }
 
-// The trace of a file in the lent lists, and what Write gives of them in other bytes: those of the file, and their count.
+// The trace of a file in the lent lists, and what Write gives of them in other bytes: those of the file, or, where it has
+// readings, those of its trace; and their count.
 pub fn read_then_write(
     file: &[u8],
     times: &mut [u32],

@@ -5,3 +5,4 @@ pub mod BothWays
 pub mod Refusals
 pub mod Addresses
 pub mod Services
+pub mod Readings
