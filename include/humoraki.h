@@ -38,7 +38,7 @@
  * trace file and the order of corners, docs/LIBRARY.md the stack that each function needs.
  *
  * The file of a logger may have readings in the place of ranges: a spot value, or a low and a high, in IEEE 754
- * binary32. They become ranges in 256ths, so that 1.5 is 384, and the level of such a file is in 256ths too. Nothing is
+ * binary32. They become ranges in 256ths, so that 1.5 is 384, and such a file has its level in 256ths too. Nothing is
  * rounded: a value that is no whole number of 256ths is refused with 11. No function takes or gives a float.
  */
 #ifndef HUMORAKI_H
@@ -118,7 +118,7 @@ extern "C" {
  * file       the file's bytes, of any number
  * times      filled with the time of each range
  * lows       filled with the low of each range; of a reading in 256ths
- * highs      filled with the high of each range, likewise; a spot value is both low and high, and minus zero is 0
+ * highs      filled with the high of each range, likewise; the one value of a spot is taken for both, and -0.0 for 0
  * address    set to the detector's address, 1 to 65,535: up to 255 the file has it in one byte, above in two
  * level      set to the service level, as it stands in the file: beside readings it is in 256ths already
  * direction  set to HUMORAKI_FALLING, which is 1, where the file says so, else to HUMORAKI_RISING, which is 0

@@ -185,7 +185,7 @@ pub fn meaning(refusal: u8) -> &'static str {
 }
 
 /// The trace that a file's bytes hold. Readings of a logger, in binary32, become ranges in 256ths, and nothing is
-/// rounded; the level of such a file is in 256ths as it stands.
+/// rounded; such a file has its level in 256ths as it stands.
 pub fn read(file: &[u8]) -> Result<Trace, u8> {
     let mut times = vec![0; READ_ROOM];
     let mut lows = vec![0; READ_ROOM];
