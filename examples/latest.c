@@ -1,6 +1,6 @@
 /*
  * Prints the last segment of a trace file and beside it the latest trend: as many of the last ranges as one line can
- * fit, up to 1,024, which can be more than that segment has. Then the corners of its fit, and how many ranges the runs
+ * fit, which can be more than that segment has. Then the corners of its fit, and how many ranges the runs
  * have into which the trace is cut from its start, as segments, and from its end, each run the latest of what is left.
  * There are as many one way as the other.
  *

@@ -64,9 +64,6 @@ extern "C" {
 /* The largest number of entries, one for each head, that a panel may have. */
 #define HUMORAKI_MOST_HEADS 64
 
-/* The largest number of ranges that a segment may have, and the run of a latest trend. */
-#define HUMORAKI_SEGMENT_LIMIT 1024
-
 /*
  * Stands for a time that there is not, in somes and alls, and in some and all of humoraki_preview and humoraki_latest.
  * Times end with 4,294,967,295, so a level that is reached only later counts as never reached.
@@ -165,9 +162,7 @@ uint8_t humoraki_write(uint32_t address, int32_t level, uint32_t direction, uint
                        size_t *count);
 
 /*
- * The segments of a trace, with their slow and fast lines and their two times. The first range begins a segment. Each
- * range after it joins the segment before it, if that has fewer than HUMORAKI_SEGMENT_LIMIT ranges and some line fits
- * them all with it, and else begins the next one.
+ * The segments of a trace, with their slow and fast lines and their two times.
  *
  * level                     the service level, -268,435,456 to 268,435,456
  * direction                 HUMORAKI_RISING or HUMORAKI_FALLING; any other number is refused with 4
@@ -186,13 +181,12 @@ uint8_t humoraki_segment(int32_t level, uint32_t direction, uint32_t step,
                          size_t *count);
 
 /*
- * The corners of the fit of the segment then running after the first k ranges: the last segment of these alone.
+ * The corners of the fit of the segment then running after the first k ranges.
  *
  * k                   how many ranges, from 1 on
  * times, lows, highs  the ranges, in lists of one length
  * ps, qs, ds          filled with the corners, in corner order: the value at t is (p * t + q) / d
- * count               set to the number of corners; 0 says that the fit is open, since the segment has one range so
- *                     far, as it has after 1,025 ranges on one line
+ * count               set to the number of corners; 0 says that the fit is open, since the segment has one range so far
  *
  * Refusals: 8, 10, 7, range by range 4, 5, 6 over the whole lists, and last 9.
  */
@@ -207,8 +201,7 @@ uint8_t humoraki_corners(size_t k,
 
 /*
  * The effect of a range before it is added: whether it would join the last segment or begin one, and the outlook of the
- * last segment then. That is what humoraki_segment gives on a copy of the lists with the range behind it. Behind a last
- * segment of HUMORAKI_SEGMENT_LIMIT ranges every range begins one, though a line may fit them all.
+ * last segment then. That is what humoraki_segment gives on a copy of the lists with the range behind it.
  *
  * level                   the service level, -268,435,456 to 268,435,456
  * direction               HUMORAKI_RISING or HUMORAKI_FALLING; any other number is refused with 4
@@ -241,9 +234,8 @@ uint8_t humoraki_preview(int32_t level, uint32_t direction, uint32_t step,
                          uint64_t *some, uint64_t *all);
 
 /*
- * The latest trend. Its run has the last ranges of the trace, as many as some line can fit together, but at most
- * HUMORAKI_SEGMENT_LIMIT; it is told with its outlook and its corners. Like the last segment it ends with the last
- * range, and it can begin before that one.
+ * The latest trend. Its run has the last ranges of the trace, as many as some line can fit together; it is told with
+ * its outlook and its corners. Like the last segment it ends with the last range, and it can begin before that one.
  *
  * level                   the service level, -268,435,456 to 268,435,456
  * direction               HUMORAKI_RISING or HUMORAKI_FALLING; any other number is refused with 4

@@ -2,8 +2,7 @@
  * Tries from C what humoraki.h says of memory that is lent: a pointer beside a length of 0 may be null, and what a
  * function fills, sets or changes is written on success and left alone else. Then writes and reads back the addresses
  * and the steps at the ends of their spans and both directions, hands in numbers past them, reads readings, previews
- * ranges, asks for latest trends, tries the limit of a segment, and fills a panel. Prints what is not so, and then ends
- * with 1.
+ * ranges, asks for latest trends, and fills a panel. Prints what is not so, and then ends with 1.
  */
 #include "humoraki.h"
 
@@ -64,14 +63,12 @@ static uint8_t call_write(int missing) {
     return humoraki_write(7, 20, PLAIN, EMPTY, EMPTY, EMPTY, SLICE(0, file), &lent.count);
 }
 
-/* What Segment fills. */
-#define COLUMNS \
-    SLICE(0, first_times), SLICE(1, last_times), SLICE(2, counts), \
-    SLICE(3, slow[0]), SLICE(4, slow[1]), SLICE(5, slow[2]), \
-    SLICE(6, fast[0]), SLICE(7, fast[1]), SLICE(8, fast[2]), SLICE(9, somes), SLICE(10, alls)
-
 static uint8_t call_segment(int missing) {
-    return humoraki_segment(20, PLAIN, EMPTY, EMPTY, EMPTY, COLUMNS, &lent.count);
+    return humoraki_segment(20, PLAIN, EMPTY, EMPTY, EMPTY,
+                            SLICE(0, first_times), SLICE(1, last_times), SLICE(2, counts),
+                            SLICE(3, slow[0]), SLICE(4, slow[1]), SLICE(5, slow[2]),
+                            SLICE(6, fast[0]), SLICE(7, fast[1]), SLICE(8, fast[2]),
+                            SLICE(9, somes), SLICE(10, alls), &lent.count);
 }
 
 /* What Corners and Latest fill. */
@@ -195,7 +192,11 @@ static uint8_t write_two(uint32_t direction, uint32_t step) {
 
 static uint8_t segment_two(uint32_t direction, uint32_t step) {
     int missing = -1;
-    return humoraki_segment(10, direction, step, TWO, COLUMNS, &lent.count);
+    return humoraki_segment(10, direction, step, TWO,
+                            SLICE(0, first_times), SLICE(1, last_times), SLICE(2, counts),
+                            SLICE(3, slow[0]), SLICE(4, slow[1]), SLICE(5, slow[2]),
+                            SLICE(6, fast[0]), SLICE(7, fast[1]), SLICE(8, fast[2]),
+                            SLICE(9, somes), SLICE(10, alls), &lent.count);
 }
 
 static uint8_t preview_two(uint32_t direction, uint32_t step) {
@@ -381,44 +382,6 @@ static void try_latest_trends(void) {
     expect(kept(), "latest", "something is changed by a refusal");
 }
 
-/* As many points on a line as a segment may have, and one more. */
-#define MOST HUMORAKI_SEGMENT_LIMIT
-static uint32_t line_times[MOST + 1];
-static int32_t line_values[MOST + 1];
-#define POINTS(count) line_times, count, line_values, count, line_values, count
-
-/* The kind of the next point behind so many. */
-static uint32_t kind_behind(size_t count) {
-    expect(humoraki_preview(20, PLAIN, POINTS(count), (uint32_t)count, (int32_t)count, (int32_t)count, EFFECT) == 0,
-           "preview", "a point on the line is refused");
-    return lent.kind;
-}
-
-/* The number of corners after k of the points. */
-static size_t corners_after(size_t k) {
-    int missing = -1;
-    expect(humoraki_corners(k, POINTS(MOST + 1), CORNERS, &lent.count) == 0, "corners", "points are refused");
-    return lent.count;
-}
-
-/* A point on the line begins a segment, if the one before has as many ranges as it may have. */
-static void try_limit(void) {
-    int missing = -1;
-    for (uint32_t at = 0; at <= MOST; at++) {
-        line_times[at] = at;
-        line_values[at] = (int32_t)at;
-    }
-    mark();
-    expect(humoraki_segment(20, PLAIN, POINTS(MOST + 1), COLUMNS, &lent.count) == 0 && lent.count == 2,
-           "segment", "another number of segments past the limit");
-    expect(lent.counts[0] == MOST && lent.counts[1] == 1, "segment", "another count past the limit");
-    expect(corners_after(MOST) == 1 && corners_after(MOST + 1) == 0, "corners", "another count past the limit");
-    expect(kind_behind(MOST - 1) == HUMORAKI_JOINS, "preview", "another kind below the limit");
-    expect(kind_behind(MOST) == HUMORAKI_BEGINS, "preview", "another kind at the limit");
-    expect(humoraki_latest(20, PLAIN, POINTS(MOST + 1), CORNERS, TREND) == 0 && lent.ranges == MOST,
-           "latest", "another number of ranges past the limit");
-}
-
 /* Adds a range to the panel; a refusal must leave all that is lent as it was. */
 static void try_add(uint32_t address, uint32_t time, int32_t low, int32_t high, uint8_t number) {
     static unsigned char before[sizeof lent];
@@ -487,7 +450,6 @@ int main(void) {
     try_readings();
     try_previews();
     try_latest_trends();
-    try_limit();
     try_panel();
     return failures == 0 ? 0 : 1;
 }

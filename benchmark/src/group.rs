@@ -6,7 +6,7 @@ use crate::calls::Call;
 use crate::measure::{Measure, Times};
 use crate::traces::{Shape, traces};
 
-pub const LENGTHS: [usize; 7] = [8, 32, 256, 512, 1024, 2048, 4096];
+pub const LENGTHS: [usize; 5] = [256, 512, 1024, 2048, 4096];
 
 /// Ranges of all traces of one length together.
 const RANGES: usize = 16_384;

@@ -22,10 +22,10 @@ const ROUNDS: usize = 20;
 
 /// The calls, each on these shapes. Only Segment asks for the direction again and again, once in each segment.
 const MEASURED: [(Call, &[Shape]); 4] = [
-    (Call::Segment, &[Shape::LongSegments, Shape::ShortSegments, Shape::FallingSegments, Shape::LargeChains]),
-    (Call::Corners, &[Shape::LongSegments, Shape::ShortSegments, Shape::LargeChains]),
-    (Call::Preview, &[Shape::LongSegments, Shape::ShortSegments, Shape::LargeChains]),
-    (Call::Latest, &[Shape::LongSegments, Shape::ShortSegments, Shape::LargeChains]),
+    (Call::Segment, &[Shape::LongSegment, Shape::ShortSegments, Shape::FallingSegments, Shape::LargeChains]),
+    (Call::Corners, &[Shape::LongSegment, Shape::ShortSegments, Shape::LargeChains]),
+    (Call::Preview, &[Shape::LongSegment, Shape::ShortSegments, Shape::LargeChains]),
+    (Call::Latest, &[Shape::LongSegment, Shape::ShortSegments, Shape::LargeChains]),
 ];
 
 fn main() {

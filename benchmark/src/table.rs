@@ -7,15 +7,15 @@ use crate::panels::{PanelMeasure, Task};
 use crate::traces::Shape;
 
 /// The places of 1,024 and 4,096 among the lengths.
-const GROWTH_FROM: usize = 4;
-const GROWTH_TO: usize = 6;
+const GROWTH_FROM: usize = 2;
+const GROWTH_TO: usize = 4;
 
 const NOTES: &str = "\
 Nanoseconds for each range. Proved is the static library, unproved an ordinary Rust program of the same algorithm; \
 both are compiled at -O3 for any x86-64, and gave the same for every trace before either was measured. \
 They take turns, and a time is the least of many calls. At each length the traces have 16,384 ranges in all. \
 The slices to be filled are allocated once and not cleared between calls; \
-the two chains, 1,024 entries each, are on the stack of both programs, and each call sets them to 0, \
+the two chains, 4,096 entries each, are on the stack of both programs, and each call sets them to 0, \
 as Latest does with three lists for the ranges read from the end. \
 Corners is asked after all ranges, and Preview for the last range behind all others. \
 Segments, corners and the ranges of the latest run are counted at 4,096 ranges. \
@@ -29,7 +29,7 @@ fn growth(numbers: &[f64]) -> f64 {
 
 fn shape_name(shape: Shape) -> &'static str {
     match shape {
-        Shape::LongSegments => "long segments",
+        Shape::LongSegment => "one long segment",
         Shape::ShortSegments => "many short segments",
         Shape::FallingSegments => "many short segments, falling",
         Shape::LargeChains => "large chains",
@@ -80,8 +80,8 @@ fn largest(numbers: impl Iterator<Item = f64>) -> f64 {
 }
 
 pub fn print(groups: &[Group]) {
-    println!("| call | trace | each range | 8 | 32 | 256 | 512 | 1,024 | 2,048 | 4,096 | growth |");
-    println!("|---|---|---|--:|--:|--:|--:|--:|--:|--:|--:|");
+    println!("| call | trace | each range | 256 | 512 | 1,024 | 2,048 | 4,096 | growth |");
+    println!("|---|---|---|--:|--:|--:|--:|--:|--:|");
     for group in groups {
         print_group(group);
         match group.call {

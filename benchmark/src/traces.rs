@@ -8,13 +8,13 @@ const FIRST_TIME: i64 = 10_000_000;
 
 #[derive(Clone, Copy, PartialEq)]
 pub enum Shape {
-    /// Ranges about a rising line: segments as long as they may be, of whose fits few ranges cut off anything.
-    LongSegments,
+    /// Ranges about a rising line: one segment, of whose fit few ranges cut off anything.
+    LongSegment,
     /// Ranges in no order: a segment has two or three of them.
     ShortSegments,
     /// The same upside down, on falling traces.
     FallingSegments,
-    /// Highs on a bowl and lows on its mirror image: segments as long, of whose fits every end is a corner.
+    /// Highs on a bowl and lows on its mirror image: every end is a corner of the fit.
     LargeChains,
 }
 
@@ -36,7 +36,7 @@ fn trace(level: i32, ranges: impl Iterator<Item = (i64, i64, i64)>) -> Trace {
     trace
 }
 
-fn long_segments(n: usize, random: &mut Random) -> Trace {
+fn long_segment(n: usize, random: &mut Random) -> Trace {
     let slope = random.between(5, 50);
     let mut time = FIRST_TIME;
     let ranges = (0..n).map(|_| {
@@ -86,7 +86,7 @@ fn large_chains(n: usize, random: &mut Random) -> Trace {
 pub fn traces(shape: Shape, n: usize, number: usize) -> Vec<Trace> {
     let mut random = Random::new(n as u64);
     let make = match shape {
-        Shape::LongSegments => long_segments,
+        Shape::LongSegment => long_segment,
         Shape::ShortSegments => short_segments,
         Shape::FallingSegments => falling_segments,
         Shape::LargeChains => large_chains,

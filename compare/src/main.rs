@@ -108,7 +108,6 @@ fn all_rounds(desk: &mut Desk, traces: usize) -> Outcome {
     rounds::short_slices::compare(desk)?;
     rounds::largest::compare(desk)?;
     rounds::long_traces::compare(desk)?;
-    rounds::limits::compare(desk)?;
     rounds::panel_cases::compare(desk)?;
     rounds::panel_faults::compare(desk)?;
     rounds::panel_courses::compare(desk)

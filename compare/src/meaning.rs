@@ -6,7 +6,7 @@ use crate::file;
 use crate::line::{Line, turn};
 use crate::outlook::Outlook;
 use crate::segments::{BY_CLIPPING, BY_TRYING, Segment, Stage, stages};
-use crate::splits::{closes, farthest_ends, no_split_is_better};
+use crate::splits::{closed_by_three, no_split_is_better};
 use crate::trace::{FALLING, LAST_TIME, Lists, Range, Service, Trace};
 use std::iter::successors;
 
@@ -58,16 +58,13 @@ fn fault(ranges: &[Range], service: Service, stages: &[Stage], segments: &[Segme
         if !times_are_least(segment, &stages[end - 1].corners, service) {
             return Some("one of the two times is not the least");
         }
-        if end < ranges.len() && !closes(&ranges[begin..end], &ranges[end]) {
-            return Some("a segment is closed below the limit, without two ranges that leave no line");
+        if end < ranges.len() && !closed_by_three(&ranges[begin..end], &ranges[end]) {
+            return Some("a segment is closed without two ranges that leave no line");
         }
         ends.push(end);
     }
     if !no_split_is_better(ranges, &ends) {
         return Some("the segments are no split, or a split does better");
-    }
-    if farthest_ends(ranges) != ends {
-        return Some("so many runs can reach farther than as many segments, or not as far");
     }
     None
 }

@@ -3,7 +3,7 @@
 use crate::clipping;
 use crate::line::Line;
 use crate::outlook::{Outlook, outlook};
-use crate::trace::{Range, SEGMENT_LIMIT, Service};
+use crate::trace::{Range, Service};
 use crate::trying;
 use std::iter::successors;
 
@@ -32,8 +32,7 @@ pub struct Segment {
 }
 
 impl Stage {
-    /// The stage after one range more: it joins if the segment is below the limit and some line fits the segment with
-    /// it, else it begins a new segment.
+    /// The stage after one range more: it joins if some line fits the segment with it, else it begins a new segment.
     pub fn next(&self, ranges: &[Range], fitter: Fitter) -> Option<Stage> {
         let Stage { begin, end, corners } = self;
         if *end == ranges.len() {
@@ -43,7 +42,7 @@ impl Stage {
         if run.len() == 1 {
             return Some(Stage { begin: *begin, end: end + 1, corners: Vec::new() });
         }
-        let corners = if run.len() > SEGMENT_LIMIT { Vec::new() } else { fitter(corners, run) };
+        let corners = fitter(corners, run);
         let closes = corners.is_empty();
         Some(Stage { begin: if closes { *end } else { *begin }, end: end + 1, corners })
     }

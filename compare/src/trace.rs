@@ -4,10 +4,6 @@ pub const LAST_TIME: u32 = 4_294_967_295;
 pub const LEAST_VALUE: i32 = -268_435_456;
 pub const LARGEST_VALUE: i32 = 268_435_456;
 pub const MOST_RANGES: usize = 4096;
-
-/// The largest number of ranges of a segment, of a run of a split and of the latest run.
-pub const SEGMENT_LIMIT: usize = 1024;
-
 pub const LARGEST_ADDRESS: u32 = 65_535;
 
 /// The numbers of the two directions.

@@ -1,11 +1,11 @@
-//! The latest trend: the longest run at the end of a trace that is within the limit and that some line fits, found in
-//! two ways; and a trace cut into such runs from its end.
+//! The latest trend: the longest run at the end of a trace that some line fits, found in two ways; and a trace cut into
+//! such runs from its end.
 
 use crate::clipping;
 use crate::line::Line;
 use crate::outlook::{Outlook, outlook};
 use crate::segments::Stage;
-use crate::trace::{Range, SEGMENT_LIMIT, Service};
+use crate::trace::{Range, Service};
 use crate::trying;
 
 /// Gives how many ranges the longest run at the end has, and its corners, none while it is open.
@@ -54,22 +54,21 @@ pub fn cut_from_the_end(ranges: &[Range], finder: Finder) -> Vec<Run> {
     runs
 }
 
-/// From the longest within the limit on, the first end that some line fits.
+/// From the whole on, the first end that some line fits.
 fn longest_tried(ranges: &[Range]) -> Run {
-    let longest = ranges.len().saturating_sub(SEGMENT_LIMIT);
-    let ends = (longest..ranges.len()).map(|begin| &ranges[begin..]);
+    let ends = (0..ranges.len()).map(|begin| &ranges[begin..]);
     let tried = ends.map(|run| Run { ranges: run.len(), corners: trying::corners(run) });
     let mut fitting = tried.filter(|run| run.ranges == 1 || !run.corners.is_empty());
     fitting.next().unwrap_or_default()
 }
 
-/// From the last range back, up to the limit, as long as the polygon is not cut away.
+/// From the last range back, as long as the polygon is not cut away.
 fn longest_clipped(ranges: &[Range]) -> Run {
     let [earlier @ .., before, last] = ranges else {
         return Run { ranges: ranges.len(), corners: Vec::new() };
     };
     let mut run = Run { ranges: 2, corners: clipping::corners(&[], &[*before, *last]) };
-    for range in earlier.iter().rev().take(SEGMENT_LIMIT - run.ranges) {
+    for range in earlier.iter().rev() {
         let corners = clipping::cut_by(&run.corners, range);
         if corners.is_empty() {
             break;

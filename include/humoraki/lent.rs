@@ -153,8 +153,8 @@ pub fn preview(
     ))
 }
 
-/// Fills three slices with the corners of the longest run at the end that some line fits, of at most `SEGMENT_LIMIT`
-/// ranges, and sets the numbers of this trend.
+/// Fills three slices with the corners of the longest run at the end that some line fits, and sets the numbers of this
+/// trend.
 pub fn latest(service: Service, ranges: Ranges, corners: Lines, trend: TrendMut) -> Result<(), u8> {
     let Service { level, direction, step } = service;
     let TrendMut { ranges: run, slow_p, slow_q, slow_d, fast_p, fast_q, fast_d, some, all, corners: count } = trend;

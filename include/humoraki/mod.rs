@@ -43,9 +43,6 @@ pub const PANEL_ROOM: usize = 4096;
 /// The largest number of entries, one for each head, that a panel may have.
 pub const MOST_HEADS: usize = 64;
 
-/// The largest number of ranges that a segment may have, and the run of a latest trend.
-pub const SEGMENT_LIMIT: usize = 1024;
-
 /// Stands for a time that there is not, in the columns `somes` and `alls`, and in `some` and `all` of `lent::preview`
 /// and `lent::latest`.
 pub const NONE: u64 = 4_294_967_296;
@@ -125,7 +122,7 @@ pub enum Outlook {
     Lines { slow: Line, fast: Line, some: Option<u32>, all: Option<u32> },
 }
 
-/// A run of ranges that one line fits, at most `SEGMENT_LIMIT` of them.
+/// A run of ranges that one line fits.
 #[derive(Clone, Copy, Debug, PartialEq, Eq)]
 pub struct Segment {
     pub first_time: u32,
@@ -142,9 +139,9 @@ pub enum Effect {
     Begins(Outlook),
 }
 
-/// The latest trend: the longest run at the end of a trace that has at most `SEGMENT_LIMIT` ranges and that some line
-/// fits. It has the last ranges, as many as told here; `corners` are those of its fit, in corner order. A run of one
-/// range is open and has none, as has that of a trace without ranges.
+/// The latest trend: the longest run at the end of a trace that some line fits. It has the last ranges, as many as told
+/// here; `corners` are those of its fit, in corner order. A run of one range is open and has none, as has that of a
+/// trace without ranges.
 #[derive(Clone, Debug, PartialEq, Eq)]
 pub struct Trend {
     pub ranges: usize,
@@ -221,8 +218,7 @@ pub fn write(trace: &Trace) -> Result<Vec<u8>, u8> {
     Ok(file)
 }
 
-/// The segments of a trace. A range closes a segment where no line fits them together, and where the segment has
-/// `SEGMENT_LIMIT` ranges.
+/// The segments of a trace.
 pub fn segment(trace: &Trace) -> Result<Vec<Segment>, u8> {
     let mut table = Table::holding(0);
     let mut count = 0;
@@ -239,8 +235,7 @@ pub fn corners(trace: &Trace, k: usize) -> Result<Vec<Line>, u8> {
     Ok(lines_of(&ps, &qs, &ds, count))
 }
 
-/// The effect of a range before it is added to a trace: what `segment` tells of a copy with the range behind it. Behind
-/// a last segment of `SEGMENT_LIMIT` ranges it begins one, though a line may fit them all.
+/// The effect of a range before it is added to a trace: what `segment` tells of a copy with the range behind it.
 pub fn preview(trace: &Trace, time: u32, low: i32, high: i32) -> Result<Effect, u8> {
     let [mut slow, mut fast] = [Line { p: 0, q: 0, d: 0 }; 2];
     let (mut kind, mut some, mut all) = (0, 0, 0);

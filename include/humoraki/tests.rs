@@ -531,36 +531,6 @@ fn a_trace_is_cut_from_its_end_into_as_many_runs() {
     }
 }
 
-/// So many points on a line.
-fn on_a_line(count: usize) -> Trace {
-    let values: Vec<i32> = (0..count as i32).collect();
-    Trace { times: (0..count as u32).collect(), lows: values.clone(), highs: values, ..example() }
-}
-
-#[test]
-fn a_segment_has_a_limit() {
-    let (most, diagonal) = (SEGMENT_LIMIT as u32, line(1, 0, 1));
-    let trace = on_a_line(2 * SEGMENT_LIMIT + 1);
-    let counts: Vec<u32> = segment(&trace).unwrap().iter().map(|segment| segment.ranges).collect();
-    assert_eq!(counts, [most, most, 1]);
-    for (k, expected) in [(most - 1, vec![diagonal]), (most, vec![diagonal]), (most + 1, vec![])] {
-        assert_eq!(corners(&trace, k as usize), Ok(expected));
-    }
-    let trend = latest(&trace).unwrap();
-    assert_eq!((trend.ranges, trend.corners), (SEGMENT_LIMIT, vec![diagonal]));
-}
-
-#[test]
-fn a_range_behind_a_full_segment_begins_one() {
-    let (most, diagonal) = (SEGMENT_LIMIT as u32, line(1, 0, 1));
-    for (count, begins) in [(most - 1, false), (most, true), (most + 1, false)] {
-        let time = Some(count);
-        let joined = Outlook::Lines { slow: diagonal, fast: diagonal, some: time, all: time };
-        let expected = if begins { Effect::Begins(Outlook::Open) } else { Effect::Joins(joined) };
-        assert_eq!(preview(&on_a_line(count as usize), count, count as i32, count as i32), Ok(expected));
-    }
-}
-
 #[test]
 fn a_latest_trend_is_refused_as_segments_are() {
     let mut trace = example();

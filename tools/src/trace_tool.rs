@@ -27,8 +27,7 @@ LINES: first 'detector ADDRESS level LEVEL', then 'falling' if dust lowers the s
        for each range, or, of a logger, 'reading TIME VALUE' or 'reading TIME LOW HIGH' for each,
        in decimals that are whole in 256ths, with the level in 256ths; blank lines do not count,
        nor does what follows a '#'
-LATEST: the longest run at the end that some line fits, of at most 1024 ranges, in the words of a
-       report";
+LATEST: the longest run at the end that some line fits, in the words of a report";
 
 /// The report program reads this much of a file; later bytes cannot matter.
 const MOST_BYTES: u64 = 65_536;

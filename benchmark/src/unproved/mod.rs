@@ -15,7 +15,6 @@ mod trial;
 
 use chains::Chains;
 use ends::{Bar, Ends};
-use humoraki::SEGMENT_LIMIT;
 use humoraki::lent::{Columns, EffectMut, Lines, Panel, PanelMut, Ranges, RangesMut, Service, TrendMut};
 use outlook::Outlook;
 use rows::Segment;
@@ -25,8 +24,8 @@ use rows::Segment;
 #[inline(never)]
 pub fn segment(service: Service, ranges: Ranges, mut out: Columns) -> Result<usize, u8> {
     trial::try_segment(service, ranges, &out)?;
-    let mut up = [0; SEGMENT_LIMIT];
-    let mut down = [0; SEGMENT_LIMIT];
+    let mut up = [0; trial::MOST_RANGES];
+    let mut down = [0; trial::MOST_RANGES];
     let mut chains = Chains { up: &mut up, down: &mut down };
     let n = ranges.times.len() as u32;
     let mut start = 0;
@@ -55,11 +54,11 @@ fn segment_from(service: Service, ranges: Ranges, chains: &mut Chains, start: u3
 #[inline(never)]
 pub fn corners(k: usize, ranges: Ranges, mut out: Lines) -> Result<usize, u8> {
     trial::try_corners(k, ranges, &out)?;
-    let mut up = [0; SEGMENT_LIMIT];
-    let mut down = [0; SEGMENT_LIMIT];
+    let mut up = [0; trial::MOST_RANGES];
+    let mut down = [0; trial::MOST_RANGES];
     let mut chains = Chains { up: &mut up, down: &mut down };
     let ends = Ends::of(ranges);
-    let polygon = run::last_run(ends, &mut chains, k as u32).polygon;
+    let polygon = run::last_polygon(ends, &mut chains, k as u32);
     Ok(polygon.map_or(0, |found| corner_list::list_corners(ends, &chains, found, &mut out)))
 }
 
@@ -67,8 +66,8 @@ pub fn corners(k: usize, ranges: Ranges, mut out: Lines) -> Result<usize, u8> {
 #[inline(never)]
 pub fn preview(service: Service, ranges: Ranges, range: (u32, i32, i32), out: EffectMut) -> Result<(), u8> {
     trial::try_preview(service, ranges, range)?;
-    let mut up = [0; SEGMENT_LIMIT];
-    let mut down = [0; SEGMENT_LIMIT];
+    let mut up = [0; trial::MOST_RANGES];
+    let mut down = [0; trial::MOST_RANGES];
     let mut chains = Chains { up: &mut up, down: &mut down };
     let (time, low, high) = range;
     let lines = run::last_lines(Ends::of(ranges), &mut chains, ranges.times.len() as u32, Bar::of(time, low, high));
@@ -81,8 +80,8 @@ pub fn preview(service: Service, ranges: Ranges, range: (u32, i32, i32), out: Ef
 #[inline(never)]
 pub fn latest(service: Service, ranges: Ranges, mut out: Lines, trend: TrendMut) -> Result<usize, u8> {
     trial::try_latest(service, ranges, &out)?;
-    let mut up = [0; SEGMENT_LIMIT];
-    let mut down = [0; SEGMENT_LIMIT];
+    let mut up = [0; trial::MOST_RANGES];
+    let mut down = [0; trial::MOST_RANGES];
     let mut chains = Chains { up: &mut up, down: &mut down };
     let n = ranges.times.len();
     let start = backward::latest_start(ranges, &mut chains);

@@ -1,14 +1,12 @@
-//! The run that begins at a range and goes as far as some line fits it, up to the limit.
+//! The run that begins at a range and goes as far as some line fits it.
 
 use super::chains::Chains;
 use super::ends::{Bar, Ends};
 use super::line::Line;
 use super::polygon::Polygon;
-use humoraki::SEGMENT_LIMIT;
 
-/// A run by the numbers of its first range and of the one after its last; with its polygon, if it has two ranges.
+/// The number of the range after a run's last, and the run's polygon; a run of one range has none.
 pub struct Reach {
-    pub start: u32,
     pub end: u32,
     pub polygon: Option<Polygon>,
 }
@@ -21,25 +19,24 @@ fn closes(polygon: &Polygon, range: Bar) -> bool {
 /// The run from range i on, among the first n.
 pub fn run_from(ends: Ends<false>, chains: &mut Chains, i: u32, n: u32) -> Reach {
     if n - i < 2 {
-        return Reach { start: i, end: n, polygon: None };
+        return Reach { end: n, polygon: None };
     }
-    let most = n.min(i + SEGMENT_LIMIT as u32);
     let mut polygon = Polygon::of_two(ends, chains, i, i + 1);
     let mut k = i + 2;
-    while k < most && !closes(&polygon, ends.bar(k)) {
+    while k < n && !closes(&polygon, ends.bar(k)) {
         polygon = polygon.join(ends, chains, k);
         k += 1;
     }
-    Reach { start: i, end: k, polygon: Some(polygon) }
+    Reach { end: k, polygon: Some(polygon) }
 }
 
-/// The segment then running after the first k ranges.
-pub fn last_run(ends: Ends<false>, chains: &mut Chains, k: u32) -> Reach {
+/// The polygon of the segment then running after the first k ranges.
+pub fn last_polygon(ends: Ends<false>, chains: &mut Chains, k: u32) -> Option<Polygon> {
     let mut reach = run_from(ends, chains, 0, k);
     while reach.end < k {
         reach = run_from(ends, chains, reach.end, k);
     }
-    reach
+    reach.polygon
 }
 
 /// The slow and the fast line of the segment running after the first n ranges, with one range more, if it joins.
@@ -47,14 +44,12 @@ pub fn last_lines(ends: Ends<false>, chains: &mut Chains, n: u32, range: Bar) ->
     if n == 0 {
         return None;
     }
-    let last = last_run(ends, chains, n);
-    let is_full = n - last.start == SEGMENT_LIMIT as u32;
-    match last.polygon {
+    match last_polygon(ends, chains, n) {
         None => {
             let only = ends.bar(n - 1);
             Some((Line::through(only.top, range.bottom), Line::through(only.bottom, range.top)))
         }
-        Some(polygon) if is_full || closes(&polygon, range) => None,
+        Some(polygon) if closes(&polygon, range) => None,
         Some(polygon) => Some(polygon.lines_with(ends, chains, range)),
     }
 }

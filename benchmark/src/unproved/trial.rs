@@ -3,7 +3,7 @@
 use humoraki::lent::{Columns, Lines, Ranges, Service};
 use humoraki::{CORNER_ROOM, FALLING, LEAST_STEP, MOST_STEP, SEGMENT_ROOM};
 
-const MOST_RANGES: usize = 4096;
+pub const MOST_RANGES: usize = 4096;
 
 const MOST_VALUE: i32 = 268_435_456;
 

@@ -10,7 +10,7 @@ use crate::report;
 use crate::room::Room;
 use crate::rounds::{latest, mirrors};
 use crate::segments::{BY_CLIPPING, Segment, Stage, stages};
-use crate::trace::{Lists, MOST_RANGES, Range, Service, Trace};
+use crate::trace::{Lists, MOST_RANGES, Range, Trace};
 use crate::traces::addresses::address;
 use crate::traces::long::SHAPES;
 use crate::traces::services::service;
@@ -42,8 +42,7 @@ pub fn compare(desk: &mut Desk) -> Outcome {
             let last_stages = every_stage(desk, &ranges)?;
             latest::cut(desk, &ranges, &runs, last_stages.len())?;
             for _ in 0..SERVICES {
-                let service = service(&ranges, &last_stages, &mut desk.random);
-                for_service(desk, service, &ranges, (&last_stages, &runs))?;
+                for_some_service(desk, &ranges, &last_stages, &runs)?;
             }
         }
     }
@@ -83,14 +82,8 @@ fn last_range(desk: &mut Desk, stage: &Stage, ranges: &[Range]) -> Outcome {
     mirrors::preview(desk, (service, &lists, &ranges[place]), Ok(&effect))
 }
 
-/// Compares the calls on a whole trace that has these last stages of its segments and is cut from its end into these
-/// runs.
-pub fn for_service(
-    desk: &mut Desk,
-    service: Service,
-    ranges: &[Range],
-    (last_stages, runs): (&[Stage], &[Run]),
-) -> Outcome {
+fn for_some_service(desk: &mut Desk, ranges: &[Range], last_stages: &[Stage], runs: &[Run]) -> Outcome {
+    let service = service(ranges, last_stages, &mut desk.random);
     let segments: Vec<Segment> = last_stages.iter().map(|stage| stage.segment(ranges, service)).collect();
     let trace = Trace { address: address(&mut desk.random), service, ranges: ranges.to_vec() };
     let lists = Lists::of(ranges);

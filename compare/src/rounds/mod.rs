@@ -9,7 +9,6 @@ pub mod header_fields;
 pub mod largest;
 pub mod latest;
 pub mod latest_cases;
-pub mod limits;
 pub mod list_faults;
 pub mod long_traces;
 pub mod lowest_terms;

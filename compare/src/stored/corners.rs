@@ -18,7 +18,7 @@ type Long = (&'static str, Shape, u64, u64, usize, usize);
 
 const ALL: usize = MOST_RANGES;
 
-const LONG: [Long; 27] = [
+const LONG: [Long; 23] = [
     ("bowl", Shape::Bowl, 0, 1, ALL, ALL),
     ("bowl, wide gaps", Shape::Bowl, WIDE_FIRST, WIDE, ALL, ALL),
     ("bowl, the last times", Shape::Bowl, LATE_FIRST, 1, ALL, ALL),
@@ -29,10 +29,6 @@ const LONG: [Long; 27] = [
     ("waist", Shape::Waist, 0, 1, ALL, ALL),
     ("waist, wide gaps", Shape::Waist, WIDE_FIRST, WIDE, ALL, ALL),
     ("waist, first half", Shape::Waist, 0, 1, ALL, 2048),
-    ("bowl, a full segment", Shape::Bowl, 0, 1, ALL, 1024),
-    ("bowl, first of a segment", Shape::Bowl, 0, 1, ALL, 1025),
-    ("bowl, two of a segment", Shape::Bowl, 0, 1, ALL, 1026),
-    ("full, first of a segment", Shape::Full, 0, 1, ALL, 3073),
     ("full, wide gaps", Shape::Full, WIDE_FIRST, WIDE, ALL, ALL),
     ("full, the last times", Shape::Full, LATE_FIRST, 1, ALL, ALL),
     ("parabola", Shape::Parabola, 0, 1, ALL, ALL),

@@ -20,7 +20,7 @@ type Long = (&'static str, Shape, u64, u64, i32, usize, usize);
 
 const ALL: usize = MOST_RANGES;
 
-const LONG: [Long; 32] = [
+const LONG: [Long; 28] = [
     ("bowl", Shape::Bowl, 0, 1, 268_435_456, ALL, ALL),
     ("bowl, wide gaps", Shape::Bowl, WIDE_FIRST, WIDE, 5_000_002, ALL, ALL),
     ("bowl, the last times", Shape::Bowl, LATE_FIRST, 1, 5_004_095, ALL, ALL),
@@ -31,10 +31,6 @@ const LONG: [Long; 32] = [
     ("full", Shape::Full, 0, 1, 0, ALL, ALL),
     ("full, wide gaps", Shape::Full, WIDE_FIRST, WIDE, 268_435_456, ALL, ALL),
     ("full, the last times", Shape::Full, LATE_FIRST, 1, -268_435_456, ALL, ALL),
-    ("full, 1024 ranges", Shape::Full, 0, 1, 0, 1024, 1024),
-    ("full, 1025 ranges", Shape::Full, 0, 1, 0, 1025, 1025),
-    ("bowl, 1026 ranges", Shape::Bowl, 0, 1, 5_000_002, 1026, 1026),
-    ("waist, 2049 ranges", Shape::Waist, 0, 1, 3, 2049, 2049),
     ("parabola", Shape::Parabola, 0, 1, 20_000_000, ALL, ALL),
     ("parabola, wide gaps", Shape::Parabola, WIDE_FIRST, WIDE, 16_769_025, ALL, ALL),
     ("parabola, the last times", Shape::Parabola, LATE_FIRST, 1, 9_000_000, ALL, ALL),

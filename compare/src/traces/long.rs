@@ -30,8 +30,8 @@ pub fn full(count: usize) -> Vec<Range> {
 }
 
 /// Highs on a parabola that opens upwards and lows on one that opens downwards, so far apart that every end is on an
-/// edge of the fit: a segment has twice as many corners as ranges.
-pub fn bowl(count: usize, gap: u32, steep: i128) -> Vec<Range> {
+/// edge of the fit: twice as many corners as ranges.
+fn bowl(count: usize, gap: u32, steep: i128) -> Vec<Range> {
     let middle = count as i128 / 2;
     let range = |place: usize| {
         let away = place as i128 - middle;
@@ -116,11 +116,7 @@ fn drift(count: usize, random: &mut Random) -> Vec<Range> {
 
 /// Segments of a few hundred ranges, whose ends on one side are all on a hull.
 fn parabola(count: usize, random: &mut Random) -> Vec<Range> {
-    arch(count, random.between(10_000, 60_000) as i128)
-}
-
-/// Lows and highs on parabolas, one the width above the other.
-pub fn arch(count: usize, width: i128) -> Vec<Range> {
+    let width = random.between(10_000, 60_000) as i128;
     let middle = count as i128 / 2;
     let range = |place: usize| {
         let away = place as i128 - middle;

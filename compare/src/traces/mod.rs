@@ -1,7 +1,6 @@
 //! Where the traces come from.
 
 pub mod addresses;
-pub mod beyond;
 pub mod grown;
 pub mod levels;
 pub mod long;

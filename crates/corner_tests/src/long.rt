@@ -54,13 +54,6 @@ fn bowls() {
     after(b"waist, first half", Shape::Waist, 0, 1, 4096, 2048);
 }
 
-fn limit() {
-    after(b"bowl, a full segment", Shape::Bowl, 0, 1, 4096, 1024);
-    after(b"bowl, first of a segment", Shape::Bowl, 0, 1, 4096, 1025);
-    after(b"bowl, two of a segment", Shape::Bowl, 0, 1, 4096, 1026);
-    after(b"full, first of a segment", Shape::Full, 0, 1, 4096, 3073);
-}
-
 fn extremes() {
     after(
         b"full, wide gaps",
@@ -131,7 +124,6 @@ fn bands() {
 
 pub fn all() {
     bowls();
-    limit();
     extremes();
     bands();
 }

@@ -4,7 +4,7 @@
 --     table-holds            each call gives its result, by computation
 --
 -- Assumes nothing.
-use Rattle.std.specs.Prelude.{◌≡◌, refl, ℕ, zero, suc, ◌+◌, true, length, drop, replicate, ℤ, pos, neg_ℤ}
+use Rattle.std.specs.Prelude.{◌≡◌, refl, ℕ, zero, suc, ◌+◌, length, drop, replicate, ℤ, pos, neg_ℤ}
 use mathlib.Core.List.{List, [], ◌∷◌, ◌++◌, map, get_last_d}
 use Rattle.integers.specs.Lists.{all, any, filter}
 use Rattle.integers.specs.Sorting.{insert, sorted}
@@ -13,14 +13,14 @@ use Rattle.integers.specs.Least.{scan, first, first_by_ends}
 use Rattle.integers.specs.Multiples.{from_turn, to_turn, first_multiple}
 use Rattle.integers.specs.Gcd.{euclid, gcd}
 use Rattle.integers.specs.LowestTerms.{common_divisor}
-use Rattle.definitions.specs.Spans.{segment_limit, segment_room, corner_room, read_room, write_room, panel_room}
+use Rattle.definitions.specs.Spans.{segment_room, corner_room, read_room, write_room, panel_room}
 use Rattle.definitions.specs.Times.{none, at}
 use Rattle.definitions.specs.Services.{Service, direction_of}
 use Rattle.definitions.specs.Ranges.{Range, Lists, zip_ranges, ranges_of}
 use Rattle.definitions.specs.Lines.{Line, reading, fits_range, fits, side_at, at_or_above, at_or_below, through, through_ends, candidates_from, candidates, has_line}
 use Rattle.definitions.specs.Corners.{reduced, before, side, between, between_some, fitting, extreme, corner_order, corners}
-use Rattle.definitions.specs.Splits.{cut_from, cut, limited, last_run}
-use Rattle.definitions.specs.Segments.{segments_within, segments, running_after}
+use Rattle.definitions.specs.Splits.{cut_from, cut, last_run}
+use Rattle.definitions.specs.Segments.{segments, running_after}
 use Rattle.definitions.specs.Outlook.{passed, has_reached, some_time, all_time, Outlook, open_strip, lines, outlook_of, end_time, outlook}
 use Rattle.definitions.specs.Results.{Segment, segment_of, segments_of, row_length}
 use Rattle.definitions.specs.Answers.{Answer, refused, accepted, ◌>>=◌, firstRow}
@@ -33,7 +33,7 @@ use Rattle.definitions.specs.HeaderFields.{address_of, address_body, level_of, d
 use Rattle.definitions.specs.TraceFile.{Trace, range_of, range_form, reading_tag, reading_form, form_of, range_kind, read_fields, read_file, write_ranges, write_file}
 use Rattle.definitions.specs.Calls.{Fit, bounded, fit_of, corners_in, read_call, write_call, segment_call, corners_call}
 use Rattle.definitions.specs.Previews.{longer, Effect, joins, begins, last_outlook, effect_of, preview_call}
-use Rattle.definitions.specs.Latest.{latest_by, latest_within, latest_run, Trend, trend_of, latest_call}
+use Rattle.definitions.specs.Latest.{latest_by, latest_run, Trend, trend_of, latest_call}
 use Rattle.definitions.specs.Report.{ascii, digits_within, decimal, signed_decimal, time_text, line_text, outlook_text, span_text, segment_line, segment_lines, trace_line, refused_line, trace_text, report_text, report, report_room, report_call}
 use Rattle.definitions.specs.Panels.{Panel, total_held, common_taken, is_at, either, held_by, zip_taken, taken, on_panel, kept, head_ranges, last_time, counted_in, occurrences, twice, outside_address, miscounted, bad_panel, not_panel, unknown, crowded}
 use Rattle.definitions.specs.PanelCalls.{room_of, panel_rows, add_rows, bumped, entries_after, put_at, added, add_call, head_ranges_call}
@@ -41,8 +41,7 @@ use Rattle.definitions.specs.declared.entries.Entry.{Entry}
 
 -- Segment with what is looked for and lists, Corners with k and lists, Read or the report with a file, Write with an address, what is looked for and no
 -- ranges, Add with a panel, an address and a range, Head ranges with a panel and an address, Preview with what is looked for, lists and a range, or Latest with
--- what is looked for and lists; the slices to be filled are as long as they must be. Of the limit: lists cut into runs of at most so many ranges, the latest run of
--- at most so many, and so many elements cut by the scope's limit alone
+-- what is looked for and lists; the slices to be filled are as long as they must be
 pub data Call : Type 0 where
   segment : Service → Lists → Call
   corners_after : ℕ → Lists → Call
@@ -53,9 +52,6 @@ pub data Call : Type 0 where
   ranges_at : Panel → ℕ → Call
   preview : Service → Lists → Range → Call
   latest : Service → Lists → Call
-  cut_within : ℕ → Lists → Call
-  latest_of : ℕ → Lists → Call
-  cut_by_limit : ℕ → Call
 
 pub data Result : Type 0 where
   segmented : Answer (List Segment) → Result
@@ -67,8 +63,6 @@ pub data Result : Type 0 where
   listed : Answer (List Range) → Result
   seen : Answer Effect → Result
   trended : Answer Trend → Result
-  times_in : List (List ℕ) → Result
-  counted : List ℕ → Result
 
 pub run : Call → Result
 run (segment v ls) = segmented (segment_call (replicate row_length segment_room) v ls)
@@ -80,9 +74,6 @@ run (add s a r) = tried (add_call s a r)
 run (ranges_at s a) = listed (head_ranges_call (replicate 3 panel_room) s a)
 run (preview v ls r) = seen (preview_call v ls r)
 run (latest v ls) = trended (latest_call (replicate 3 corner_room) v ls)
-run (cut_within most ls) = times_in (map (map (λ r. r.time)) (segments_within most (ranges_of ls)))
-run (latest_of most ls) = times_in (map (λ r. r.time) (latest_within most (ranges_of ls)) ∷ [])
-run (cut_by_limit n) = counted (map length (cut {A = ℕ} (limited segment_limit (λ run. true)) (replicate n 0)))
 
 infix 85 ◌gives◌
 pub data Case : Type 0 where
@@ -494,17 +485,8 @@ table =
     ∷ read (header11 ++ (6 ∷ 0 ∷ 8 ∷ 0 ∷ 0 ∷ 0 ∷ 10 ∷ 127 ∷ 192 ∷ 0 ∷ [])) gives opened (refused 1)
     ∷ print logger_file gives text_is (ascii "detector 7 level 640 ranges 3 segments 1\nsegment 1 from 10 to 30 ranges 3 slow 64 0 5 fast 64 0 5 some 50 all 50\n")
     ∷ print (header11 ++ spot_field 10 notANumber) gives text_is (ascii "refused 11\n")
-    ∷ cut_within 1 sample gives times_in ((10 ∷ []) ∷ (20 ∷ []) ∷ (30 ∷ []) ∷ (40 ∷ []) ∷ (50 ∷ []) ∷ [])
-    ∷ cut_within 2 sample gives times_in ((10 ∷ 20 ∷ []) ∷ (30 ∷ 40 ∷ []) ∷ (50 ∷ []) ∷ [])
-    ∷ cut_within 3 sample gives times_in ((10 ∷ 20 ∷ 30 ∷ []) ∷ (40 ∷ 50 ∷ []) ∷ [])
-    ∷ cut_within 2 (points (pos 2)) gives times_in ((0 ∷ 1 ∷ []) ∷ (2 ∷ []) ∷ [])
-    ∷ latest_of 2 (points (pos 2)) gives times_in ((1 ∷ 2 ∷ []) ∷ [])
-    ∷ latest_of 3 (points (pos 2)) gives times_in ((0 ∷ 1 ∷ 2 ∷ []) ∷ [])
-    ∷ latest_of 2 sample gives times_in ((40 ∷ 50 ∷ []) ∷ [])
-    ∷ cut_by_limit 1024 gives counted (1024 ∷ [])
-    ∷ cut_by_limit 1025 gives counted (1024 ∷ 1 ∷ [])
     ∷ []
 
 pub table-holds : map (λ c. run (call_of c)) table ≡ map result_of table
-unfolding table run call_of result_of all any filter reading fits_range fits side_at at_or_above at_or_below through through_ends candidates_from candidates has_line euclid gcd common_divisor reduced before side between between_some insert sorted fitting extreme get_last_d corner_order corners cut_from cut limited last_run segments running_after scan first_by_ends first ceil_divℕ from_turn to_turn first_multiple direction_of passed has_reached some_time all_time outlook_of end_time outlook segment_of segments_of ◌>>=◌ firstRow outside bad_address bad_direction bad_step not_above range_rows ranges_rows too_short zip_ranges ranges_of differ list_rows write_rows segment_rows latest_rows corner_rows word bytes4 signed unsigned field field_tag field_size field_body field_rest field_rows take_field optional_by optional optional_field address_of address_body level_of direction_in step_in address_kind level_kind direction_kind step_kind read_header write_header parts256 not_whole in256ths low_bits high_bits reading_range reading_rows reading_in range_of range_form reading_tag reading_form form_of range_kind read_fields read_file write_ranges write_file fit_of corners_in read_call write_call segment_call corners_call digits_within decimal signed_decimal time_text line_text outlook_text span_text segment_line segment_lines trace_line refused_line trace_text report_text report report_call total_held common_taken is_at either held_by zip_taken taken on_panel kept head_ranges last_time counted_in occurrences twice outside_address miscounted bad_panel not_panel unknown crowded room_of panel_rows add_rows bumped entries_after put_at added add_call head_ranges_call longer last_outlook effect_of preview_call latest_by latest_run trend_of latest_call
+unfolding table run call_of result_of all any filter reading fits_range fits side_at at_or_above at_or_below through through_ends candidates_from candidates has_line euclid gcd common_divisor reduced before side between between_some insert sorted fitting extreme get_last_d corner_order corners cut_from cut last_run segments running_after scan first_by_ends first ceil_divℕ from_turn to_turn first_multiple direction_of passed has_reached some_time all_time outlook_of end_time outlook segment_of segments_of ◌>>=◌ firstRow outside bad_address bad_direction bad_step not_above range_rows ranges_rows too_short zip_ranges ranges_of differ list_rows write_rows segment_rows latest_rows corner_rows word bytes4 signed unsigned field field_tag field_size field_body field_rest field_rows take_field optional_by optional optional_field address_of address_body level_of direction_in step_in address_kind level_kind direction_kind step_kind read_header write_header parts256 not_whole in256ths low_bits high_bits reading_range reading_rows reading_in range_of range_form reading_tag reading_form form_of range_kind read_fields read_file write_ranges write_file fit_of corners_in read_call write_call segment_call corners_call digits_within decimal signed_decimal time_text line_text outlook_text span_text segment_line segment_lines trace_line refused_line trace_text report_text report report_call total_held common_taken is_at either held_by zip_taken taken on_panel kept head_ranges last_time counted_in occurrences twice outside_address miscounted bad_panel not_panel unknown crowded room_of panel_rows add_rows bumped entries_after put_at added add_call head_ranges_call longer last_outlook effect_of preview_call latest_by latest_run trend_of latest_call
 table-holds = refl

@@ -1,18 +1,15 @@
 -- The latest trend.
 --
 --     latest_by               the longest end of a list that passes a test: the ends are tried from the whole list on
---     latest_within most      the longest run at the end of a trace that some line fits, of at most so many ranges; an empty trace has a run of no range
---     latest_run              the scope's latest run, of at most 1,024 ranges
+--     latest_run              the longest run at the end of a trace that some line fits; an empty trace has a run of no range
 --     Trend, trend_of         what is told of a run: its number of ranges, its outlook and its corners. A run of no range is open and has no corners, and so it is with one of a single range
 --     latest_call             Latest: the trend of the latest run
 --
 -- Assumes nothing.
 use Rattle.std.specs.Prelude.{ℕ, Bool, true, false, List, [], ◌∷◌, length}
-use Rattle.definitions.specs.Spans.{segment_limit}
 use Rattle.definitions.specs.Ranges.{Range, Lists, ranges_of}
 use Rattle.definitions.specs.Services.{Service}
 use Rattle.definitions.specs.Lines.{Line, has_line}
-use Rattle.definitions.specs.Splits.{limited}
 use Rattle.definitions.specs.Outlook.{Outlook, outlook}
 use Rattle.definitions.specs.Answers.{Answer, accepted, ◌>>=◌, firstRow}
 use Rattle.definitions.specs.Trial.{latest_rows}
@@ -22,11 +19,8 @@ unfoldable pub latest_by : {A : Type 0} → (List A → Bool) → List A → Lis
 latest_by test [] = []
 latest_by test (x ∷ xs) = elim (test (x ∷ xs)) [ true ↦ x ∷ xs | false ↦ latest_by test xs ]
 
-abbrev pub latest_within : ℕ → List Range → List Range
-latest_within most rs = latest_by (limited most has_line) rs
-
 unfoldable pub latest_run : List Range → List Range
-latest_run rs = latest_within segment_limit rs
+latest_run rs = latest_by has_line rs
 
 pub record Trend : Type 0 where
   pub ranges : ℕ

@@ -3,7 +3,6 @@
 --     most_value                        lows, highs and the service level run from −268,435,456 to 268,435,456
 --     most_time, no_time                 times run from 0 to 4,294,967,295; the number after that stands for a time that there is not
 --     most_ranges                       a trace has 0 to 4,096 ranges
---     segment_limit                     a segment has at most 1,024 ranges
 --     least_address, most_address        a detector's address
 --     most_direction                    a direction is the number 0 or 1
 --     least_step, most_step              a step is 1 to 86,400 seconds
@@ -26,9 +25,6 @@ no_time = 4294967296
 
 abbrev pub most_ranges : ℕ
 most_ranges = 4096
-
-abbrev pub segment_limit : ℕ
-segment_limit = 1024
 
 abbrev pub least_address : ℕ
 least_address = 1

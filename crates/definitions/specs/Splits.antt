@@ -2,12 +2,11 @@
 --
 --     cut                    each element joins the run before it if the test passes the run with it, and else begins a new run
 --     Split                  the scope's split: runs, none empty and each good, that one after the other are the whole list
---     limited, Limited       a test of runs, and a property of them, with the limit that a run has at most so many elements
 --     end_of                  how many elements the first j runs have, so where the j-th run ends
 --     last_run                the run that ends last
 --
 -- Assumes nothing.
-use Rattle.std.specs.Prelude.{◌≡◌, Bool, true, false, ◌&&◌, ℕ, ◌≤◌, leb, length, take}
+use Rattle.std.specs.Prelude.{◌≡◌, Bool, true, false, ℕ, length, take}
 use mathlib.Core.List.{List, [], ◌∷◌, ◌++◌, flatten}
 
 module _ {A : Type 0} where
@@ -32,13 +31,6 @@ module _ {A : Type 0} where
   pub record Split (Good : List A → Type 0) (xs : List A) (runs : List (List A)) : Type 0 where
     pub whole : flatten runs ≡ xs
     pub each : GoodRuns Good runs
-
-  unfoldable pub limited : ℕ → (List A → Bool) → List A → Bool
-  limited most good run = leb (length run) most && good run
-
-  pub record Limited (most : ℕ) (Good : List A → Type 0) (run : List A) : Type 0 where
-    pub is_good : Good run
-    pub within : length run ≤ most
 
   unfoldable pub end_of : ℕ → List (List A) → ℕ
   end_of j runs = length (flatten (take j runs))

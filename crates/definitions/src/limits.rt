@@ -27,9 +27,6 @@ pub const NO_TIME: u64 = 4294967296;
 // How many ranges a trace has at most.
 pub const MOST_RANGES: usize = 4096;
 
-// How many ranges a segment has at most.
-pub const SEGMENT_LIMIT: usize = 1024;
-
 // The least length of each list that Read fills.
 pub const READ_ROOM: usize = MOST_RANGES;
 

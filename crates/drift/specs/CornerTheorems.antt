@@ -4,7 +4,7 @@
 --     given_segment              the segment running after k ranges is the front, up to range k, of the whole trace's segment that has range k
 --     given_corners              these lines are the corners of the segment running after k ranges, in the scope's list
 --     given_about                what holds of the corners of any two or more ranges that have a line holds of these lines
---     given_count                they are as many as that segment has corners, at most 2k, and at most 2,048
+--     given_count                they are as many as that segment has corners, and at most 2k
 --     given_fit, given_mean      each fits that segment, and every line that fits it is a weighted mean of them
 --     given_exact                a line is among them exactly if it is a corner of the fit, in lowest terms
 --     given_ordered, given_once  they are in corner order, none twice
@@ -14,19 +14,16 @@
 --     open_segment               the segment running after k ranges is again that front
 --     open_one, open_none        it has one range, and its fit no corner
 --     open_kept                  the slices hold their old contents
--- Where no row holds
---     open_past_limit            after 1,025 ranges that one line fits, the fit is open
 -- Where it gave the number of a refusal; `Refusals` says when
 --     refused_kept               the slices hold their old contents
 --
 -- Assumes nothing.
-use Rattle.std.specs.Prelude.{◌≡◌, ◌↔◌, ℕ, suc, ◌*◌, ◌≤◌, ℤ, length, take, drop}
+use Rattle.std.specs.Prelude.{◌≡◌, ◌↔◌, ℕ, ◌*◌, ◌≤◌, ℤ, length, drop}
 use Rattle.std.proofs.Math.Path.{refl, ap}
 use Rattle.std.proofs.Common.{sym, ◌∙◌, subst, arith}
 use mathlib.Core.List.{List, [], ◌∷◌, Nodup}
 use Rattle.integers.specs.Lists.{All, In}
 use Rattle.integers.specs.LowestTerms.{InLowestTerms}
-use Rattle.definitions.specs.Spans.{segment_limit}
 use Rattle.definitions.specs.Ranges.{Range, Lists, ranges_of}
 use Rattle.definitions.specs.Lines.{Line}
 use Rattle.definitions.specs.Corners.{corners}
@@ -36,18 +33,15 @@ use Rattle.definitions.specs.Segments.{segments, running_after}
 use Rattle.definitions.specs.Answers.{refused, accepted, firstRow}
 use Rattle.definitions.specs.Trial.{corner_rows}
 use Rattle.definitions.specs.Calls.{Fit, open_strip, bounded, fit_of, corners_in, corners_call}
-use Rattle.trial_laws.specs.Rows.{NoneHolds, first_row-accepted}
+use Rattle.trial_laws.specs.Rows.{first_row-accepted}
 use Rattle.trial_laws.specs.CallLaws.{call-accepted, bind-accepted, bind-refused}
-use Rattle.trial_laws.specs.RangeLists.{ranges_length}
-use Rattle.trial_laws.specs.Accepted.{corner_accepted}
 use Rattle.splits.specs.Runs.{FrontOf}
 use Rattle.lines.specs.Theorems.{corners_exact, corners_ordered, corners_once, corners_count, corners_fit, corners_mean, corners_by_diagonal, one_range_no_corner}
 use Rattle.lines.specs.Diagonal.{ByDiagonal}
 use Rattle.drift.specs.declared.CornersAnswer.{CornersAnswer}
 use Rattle.drift.specs.declared.CornersAnswer.TheVariants.{Corners, Open, Refused}
-use Rattle.drift.specs.RunningSegment.{running_past_limit, segment_front, running_ordered, running_short, running_good}
+use Rattle.drift.specs.RunningSegment.{segment_front, running_ordered, running_short, running_good}
 use Rattle.drift.specs.GivenLines.{given_lines, LinesFilled, lines_given, lines_past, lines_kept, lines_none, corners_about}
-use Rattle.drift.specs.Refusals.{corners_accepted}
 use Rattle.drift.specs.CornersPromise.{unbounded, corner_count, count_of, corners_meaning, three_lengths, CornersPromise}
 
 -- ---- the call
@@ -125,12 +119,11 @@ module _ {k : ℕ} {ls : Lists} {ps qs ds ps' qs' ds' : List ℤ} {n : ℕ} (pro
   pub given_about : (P : List Range → List Line → Type 0) → ((r s : Range) (ws : List Range) → Ordered (r ∷ s ∷ ws) → HasLine (r ∷ s ∷ ws) → P (r ∷ s ∷ ws) (corners (r ∷ s ∷ ws))) → P segment lines
   given_about P h = subst (P segment) (sym given_corners) (corners_about P h segment two.0 (running_ordered ns k ls passed) (running_good ns k ls passed))
 
-  pub given_count : (n ≡ length (corners segment)) × (n ≤ 2 * k) × (n ≤ 2 * segment_limit)
+  pub given_count : (n ≡ length (corners segment)) × (n ≤ 2 * k)
   given_count =
       let m : n ≡ length (corners segment) = listed.2 ∙ ap length two.1 in
       let most = given_about (λ rs ks. length ks ≤ 2 * length rs) (λ r s ws o h. corners_count r s ws o h) in
-      let (by-k, by_limit) = running_short ns k ls passed in
-      (m, omega (arith, m, ap length given_corners, most, by-k), omega (arith, m, ap length given_corners, most, by_limit))
+      (m, omega (arith, m, ap length given_corners, most, running_short ns k ls passed))
 
   pub given_fit : All (InFit segment) lines
   given_fit = given_about (λ rs ks. All (InFit rs) ks) (λ r s ws o h. corners_fit r s ws o h)
@@ -183,14 +176,6 @@ module _ {k : ℕ} {ls : Lists} {ps qs ds ps' qs' ds' : List ℤ} (promise : Cor
   pub open_kept : (ps' ≡ ps) × (qs' ≡ qs) × (ds' ≡ ds)
   unfolding corners_in
   open_kept = lines_none (slices promise) found_open refl
-
-pub open_past_limit : {ls : Lists} {ps qs ds ps' qs' ds' : List ℤ} {answer : CornersAnswer} → CornersPromise (suc segment_limit) ls ps qs ds ps' qs' ds' answer
-    → NoneHolds (corner_rows (three_lengths ps qs ds) (suc segment_limit) ls) → HasLine (take (suc segment_limit) (ranges_of ls)) → corners_meaning answer ≡ accepted unbounded
-unfolding fit_of count_of
-open_past_limit {ls} {ps} {qs} {ds} promise none line =
-    let (room, some, within, a, few) = (corner_accepted (three_lengths ps qs ds) (suc segment_limit) ls).0 ((first_row-accepted _).1 none) in
-    let (r, alone) = running_past_limit (ranges_of ls) a.ranges.ordered (omega (arith, within, ranges_length ls a.same)) line in
-    (corners_accepted promise).1 none ∙ ap (λ rs. accepted (count_of (fit_of rs))) alone
 
 -- ---- refused
 

@@ -30,8 +30,8 @@ use Rattle.drift_laws.specs.ChainParts.{Chain}
 use Rattle.drift_laws.specs.LineRows.{RowRoom}
 use Rattle.drift_laws.specs.RunsByPlace.{run, run_one, run_two}
 use Rattle.drift.specs.declared.CornersAnswer.TheVariants.{Corners, Open, Refused}
-use Rattle.segment_runs.specs.declared.last_run.Found.{Found}
-use Rattle.segment_runs.specs.LastRuns.{LastRun}
+use Rattle.fit.specs.declared.last_run.Found.{Found}
+use Rattle.fit.specs.LastRuns.{LastRun}
 use Rattle.corner_list.specs.RunCorners.{RunCorners}
 use Rattle.drift.specs.CornersPromise.{count_of, corners_meaning, three_lengths, CornersPromise}
 

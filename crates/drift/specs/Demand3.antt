@@ -3,12 +3,11 @@
 --     given_run j                       the ranges of the trace from the j-th first time that stands in the slices to the j-th last time
 --     given_runs                        these runs, as many as the number that Segment gave
 --     given_are_segments               they are the scope's segments
---     given_split                      they are a split: runs, none empty, that together are the whole trace, each with a line and at most 1,024 ranges
+--     given_split                      they are a split
 --     given_times                      each given first and last time is that of its run's first and last range
 --     given_ahead                      for every split and every j up to both counts, the j-th last time given is at or after the last time in the split's j-th run
 --     given_fewest                     every split has at least as many runs as the number of segments given
---     given_close                      wherever a further range closes a segment of fewer than 1,024 ranges, that segment holds two ranges, at different times, such that no line fits those two and the further one
---     given_long                       where one line fits a whole trace of more than 1,024 ranges, the first segment given has its first 1,024 nevertheless
+--     given_close                      wherever a further range closes a segment, that segment holds two ranges, at different times, such that no line fits those two and the further one
 --
 -- Runs are counted from 0.
 -- Assumes nothing.
@@ -19,17 +18,16 @@ use mathlib.Core.List.{List, [], ◌∷◌, ◌++◌}
 use Prim.Native.Nat.{ℕ, zero, suc, ◌<◌, ◌≤◌}
 use Rattle.std.proofs.Math.ListN.{length-map}
 use Rattle.integers.specs.Lists.{filter}
-use Rattle.definitions.specs.Spans.{segment_limit}
 use Rattle.definitions.specs.Services.{Service}
 use Rattle.definitions.specs.Ranges.{Range, Lists, ranges_of}
 use Rattle.definitions.specs.Fit.{HasLine}
 use Rattle.definitions.specs.Splits.{Split}
-use Rattle.definitions.specs.Segments.{segments, OneSegment}
+use Rattle.definitions.specs.Segments.{segments}
 use Rattle.definitions.specs.Results.{segment_of, segments_of, numbers_of}
 use Rattle.splits.specs.OrderedRanges.{first_time_of, last_time_of}
 use Rattle.splits.specs.RunTimes.{in_span}
 use Rattle.splits.specs.Segments.{TwoWithout, segment-first_time, segment-last_time, segments_of-at}
-use Rattle.lines.specs.Theorems.{segments_split, segments_ranges, segments_ahead, segments_fewest, segments_close, segments_long}
+use Rattle.lines.specs.Theorems.{segments_split, segments_ranges, segments_ahead, segments_fewest, segments_close}
 use Rattle.drift.specs.declared.SegmentAnswer.TheVariants.{Accepted}
 use Rattle.drift.specs.Columns.{Columns}
 use Rattle.drift.specs.SegmentPromise.{SegmentPromise}
@@ -89,22 +87,17 @@ module _ {v : Service} {ls : Lists} {old new : Columns} {n : ℕ} (promise : Seg
   pub given_are_segments : given_runs ls new n ≡ segments rs
   given_are_segments = runs_so_far n (omega arith) ∙ take_all n (segments rs) (omega (arith, given_count))
 
-  pub given_split : Split OneSegment rs (given_runs ls new n)
-  given_split = subst (Split OneSegment rs) (sym given_are_segments) (segments_split rs (ordered promise))
+  pub given_split : Split HasLine rs (given_runs ls new n)
+  given_split = subst (Split HasLine rs) (sym given_are_segments) (segments_split rs (ordered promise))
 
   pub given_times : (j : ℕ) → j < n → (get_or new.first_times j 0 ≡ first_time_of (given_run ls new j)) × (get_or new.last_times j 0 ≡ last_time_of (given_run ls new j))
   given_times j h = (first_given j h ∙ ap first_time_of (sym (run_given j h)), last_given j h ∙ ap last_time_of (sym (run_given j h)))
 
-  pub given_ahead : (runs : List (List Range)) → Split OneSegment rs runs → (j : ℕ) → j < length runs → j < n → last_time_of (get_or runs j []) ≤ get_or new.last_times j 0
+  pub given_ahead : (runs : List (List Range)) → Split HasLine rs runs → (j : ℕ) → j < length runs → j < n → last_time_of (get_or runs j []) ≤ get_or new.last_times j 0
   given_ahead runs s j h k = subst (λ t. last_time_of (get_or runs j []) ≤ t) (sym (last_given j k)) (segments_ahead rs (ordered promise) runs s j h (below j k))
 
-  pub given_fewest : (runs : List (List Range)) → Split OneSegment rs runs → n ≤ length runs
+  pub given_fewest : (runs : List (List Range)) → Split HasLine rs runs → n ≤ length runs
   given_fewest runs s = omega (arith, given_count, segments_fewest rs (ordered promise) runs s)
 
-  pub given_long : HasLine rs → segment_limit < length rs → given_run ls new 0 ≡ take segment_limit rs
-  given_long line long =
-      let runs_are = segments_long rs (ordered promise) line long in
-      run_given 0 (omega (arith, given_count, ap length runs_are)) ∙ ap (λ runs. get_or runs 0 []) runs_are
-
-  pub given_close : (before : List (List Range)) (run : List Range) (w : Range) (more : List Range) (after : List (List Range)) → given_runs ls new n ≡ before ++ (run ∷ (w ∷ more) ∷ after) → length run < segment_limit → TwoWithout run w
+  pub given_close : (before : List (List Range)) (run : List Range) (w : Range) (more : List Range) (after : List (List Range)) → given_runs ls new n ≡ before ++ (run ∷ (w ∷ more) ∷ after) → TwoWithout run w
   given_close before run w more after e = segments_close rs (ordered promise) before run w more after (sym given_are_segments ∙ e)

@@ -1,7 +1,7 @@
 -- Filling the slices of Segment, one segment a turn.
 --
 --     Tried              the service and the lists, where no row of the scope's table holds for them
---     StartReady         these, room for the chains of a segment, and a range at which one is to begin
+--     StartReady         these, room for the chains of a run, and a range at which a segment is to begin
 --     FillReady          the service and the lists tried, and room for all segments: what filling takes
 --     NextSegment        the segment that begins at a range is the next one, and ends within the lists
 --     Turn               after some turns: the first segments are stored, and the ranges from `start` on hold those that are left
@@ -10,7 +10,7 @@
 -- Assumes nothing.
 use Rattle.std.specs.Prelude.{ℕ, ◌+◌, ◌≤◌, ◌<◌, ◌≡◌, List, [], ◌∷◌, ℤ, length, drop}
 use Rattle.std.proofs.Common.{arith}
-use Rattle.definitions.specs.Spans.{most_ranges, segment_limit}
+use Rattle.definitions.specs.Spans.{most_ranges}
 use Rattle.definitions.specs.Services.{Service}
 use Rattle.definitions.specs.Ranges.{Lists, zip_ranges, ranges_of}
 use Rattle.definitions.specs.Results.{Segment, segments_of}
@@ -25,8 +25,8 @@ pub record Tried (v : Service) (ls : Lists) : Type 0 where
 
 pub record StartReady (v : Service) (ls : Lists) (up down : Chain) (start : ℕ) : Type 0 where
   pub tried : Tried v ls
-  pub up_room : Long segment_limit up
-  pub down_room : Long segment_limit down
+  pub up_room : Long (length ls.times) up
+  pub down_room : Long (length ls.times) down
   pub inside : start < length ls.times
 
 pub record FillReady (v : Service) (ls : Lists) (cs : Columns) : Type 0 where

@@ -8,7 +8,7 @@
 --                                      on a rising trace, at or below it on a falling one; 4,294,967,296 stands for none
 --     OutlookTold v run row            the run has one range and the last eight numbers are 0, or it has two or more and the row tells its lines and times
 --     NeverFrom step from P            P holds at no multiple of the step from `from` to 4,294,967,295
---     given_length, given_limit        the j-th count is the number of ranges of the j-th run, and at most 1,024
+--     given_length                     the j-th count is the number of ranges of the j-th run
 --     given_outlook                    the j-th entries tell the outlook of the j-th run
 --     given_open                       the j-th count is 1 exactly if the last eight of the j-th entries are 0
 --     given_lines_is                      where it is 2 or more, the j-th entries tell the lines and times of the j-th run
@@ -24,20 +24,19 @@ use Rattle.std.proofs.Math.ListN.{length}
 use Rattle.std.specs.Int.Signed.{<ℤ_irrefl}
 use Rattle.integers.specs.Least.{IsLeast, nowhere, least_at}
 use Rattle.integers.specs.Multiples.{MultipleOf, LeastMultiple}
-use Rattle.definitions.specs.Spans.{most_time, segment_limit, no_time}
+use Rattle.definitions.specs.Spans.{most_time, no_time}
 use Rattle.definitions.specs.Services.{Service}
 use Rattle.definitions.specs.Times.{Time, none, at}
 use Rattle.definitions.specs.Ranges.{Range, Lists, ranges_of}
 use Rattle.definitions.specs.Lines.{Line}
 use Rattle.definitions.specs.Fit.{HasLine, Ordered, SomeReached, AllReached}
 use Rattle.definitions.specs.Splits.{GoodRun}
-use Rattle.definitions.specs.Segments.{segments, OneSegment}
+use Rattle.definitions.specs.Segments.{segments}
 use Rattle.definitions.specs.Outlook.{outlook, end_time}
 use Rattle.definitions.specs.Results.{Numbers, segment_of, time_number, slow_line, fast_line, some_number, all_number, numbers_of}
 use Rattle.splits.specs.OrderedRanges.{ordered_at}
-use Rattle.splits.specs.Runs.{good_run}
 use Rattle.splits.specs.RunTimes.{split_run_good}
-use Rattle.splits.specs.Segments.{segment-has_line, segments_of-at}
+use Rattle.splits.specs.Segments.{segments_of-at}
 use Rattle.lines.specs.RunOutlook.{OutlookMeans, outlook-means, every-second}
 use Rattle.lines.specs.Theorems.{segments_split}
 use Rattle.trial_laws.specs.Accepted.{GoodService}
@@ -117,16 +116,11 @@ module _ {v : Service} {ls : Lists} {old new : Columns} {n : ℕ} (promise : Seg
   unfolding row_at
   given_length = ap (λ row. row.count) row_given ∙ run_length v segment ∙ ap length (sym (run_given promise j h))
 
-  pub given_limit : get_or new.counts j 0 ≤ segment_limit
-  given_limit =
-      let good = split_run_good (segments_split (ranges_of ls) (ordered promise)) j (omega (arith, given_count promise)) in
-      omega (arith, given_length, ap length (run_given promise j h), (good_run OneSegment segment good).within)
-
   pub given_outlook : OutlookTold v run (row_at new j)
   given_outlook =
       let split = segments_split (ranges_of ls) (ordered promise) in
       let inner = ordered_at (segments (ranges_of ls)) (subst Ordered (sym split.whole) (ordered promise)) j in
-      let good = segment-has_line segment (split_run_good split j (omega (arith, given_count promise))) in
+      let good = split_run_good split j (omega (arith, given_count promise)) in
       subst (λ rs. OutlookTold v rs (row_at new j)) (sym (run_given promise j h)) (subst (OutlookTold v segment) (sym row_given) (run-told v (taken_good promise) segment inner good))
 
   pub given_open : (get_or new.counts j 0 ≡ 1) ↔ LastEightZero (row_at new j)

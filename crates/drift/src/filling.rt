@@ -6,15 +6,14 @@ ghost use Rattle.values.specs.Meanings.{service_of, segment_of};
 ghost use Rattle.drift.specs.Columns.{columns, AllStored};
 ghost use Rattle.drift.specs.Filling.{StartReady, FillReady, NextSegment};
 
-use definitions::limits::SEGMENT_LIMIT;
+use definitions::limits::MOST_RANGES;
 use fit::run::run_from;
-use segment_runs::limit::limited_end;
 use values::reaching::outlook_of;
 use values::rows::row_of;
 use values::storing::store_line;
 use values::{Outlook, Segment, Service};
 
-// The segment that begins at a range: the run from there on, within the limit, and its outlook.
+// The segment that begins at a range: the run from there on, and its outlook.
 fn segment_from(
     v: Service,
     times: &[u32],
@@ -30,7 +29,6 @@ fn segment_from(
     ensures { NextSegment (service_of v) (record { times = times.entry.now; lows = lows.now; highs = highs.now }) start (segment_of result) }
 {
     let n = times.len();
-    let most = limited_end(start, n);
     let found = run_from(
         times,
         highs,
@@ -40,7 +38,7 @@ fn segment_from(
         down_times,
         down_values,
         start,
-        most,
+        n,
     );
     let end = found.end;
     let first_time = times[start];
@@ -87,10 +85,10 @@ pub fn fill(
     requires { FillReady (service_of v) (record { times = times.now; lows = lows.now; highs = highs.now }) (columns first_times.old last_times.old counts.old slow_ps.old slow_qs.old slow_ds.old fast_ps.old fast_qs.old fast_ds.old somes.old alls.old) }
     ensures { AllStored result (segments_of (service_of v) (ranges_of (record { times = times.entry.now; lows = lows.now; highs = highs.now }))) (columns first_times.old last_times.old counts.old slow_ps.old slow_qs.old slow_ds.old fast_ps.old fast_qs.old fast_ds.old somes.old alls.old) (columns first_times.new last_times.new counts.new slow_ps.new slow_qs.new slow_ds.new fast_ps.new fast_qs.new fast_ds.new somes.new alls.new) }
 {
-    let mut up_times = [0u32; SEGMENT_LIMIT];
-    let mut up_values = [0i32; SEGMENT_LIMIT];
-    let mut down_times = [0u32; SEGMENT_LIMIT];
-    let mut down_values = [0i32; SEGMENT_LIMIT];
+    let mut up_times = [0u32; MOST_RANGES];
+    let mut up_values = [0i32; MOST_RANGES];
+    let mut down_times = [0u32; MOST_RANGES];
+    let mut down_values = [0i32; MOST_RANGES];
     let mut start = 0;
     let mut count = 0;
     while start < times.len() {

@@ -5,7 +5,7 @@ ghost use Rattle.drift.specs.Columns.{columns};
 ghost use Rattle.drift.specs.SegmentPromise.{SegmentPromise};
 ghost use Rattle.drift.specs.CornersPromise.{CornersPromise};
 
-use definitions::limits::{CORNER_ROOM, SEGMENT_LIMIT, SEGMENT_ROOM};
+use definitions::limits::{CORNER_ROOM, MOST_RANGES, SEGMENT_ROOM};
 use trial::three_short;
 
 // The number of segments, or the number of a refusal.
@@ -104,11 +104,11 @@ pub fn corners(
     if trial::count_outside(k, times.len()) {
         return CornersAnswer::Refused(9);
     }
-    let mut up_times = [0u32; SEGMENT_LIMIT];
-    let mut up_values = [0i32; SEGMENT_LIMIT];
-    let mut down_times = [0u32; SEGMENT_LIMIT];
-    let mut down_values = [0i32; SEGMENT_LIMIT];
-    let found = segment_runs::last_run::last_run(
+    let mut up_times = [0u32; MOST_RANGES];
+    let mut up_values = [0i32; MOST_RANGES];
+    let mut down_times = [0u32; MOST_RANGES];
+    let mut down_values = [0i32; MOST_RANGES];
+    let found = fit::last_run::last_run(
         times,
         highs,
         lows,

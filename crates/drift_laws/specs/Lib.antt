@@ -7,5 +7,4 @@ pub mod PolygonSteps
 pub mod RunSteps
 pub mod RunsByPlace
 pub mod FirstRanges
-pub mod LastRanges
 pub mod LineRows

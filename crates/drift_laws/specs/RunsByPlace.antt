@@ -5,7 +5,6 @@
 --     run_more                   one more range at the end
 --     run_length                 how many ranges it has
 --     run_rest                   the ranges from i on are a run and what follows it
---     run_joined                 a run is its front and the run behind it
 --     run_ordered                a run is in order
 --     run_polygon ls i e          the polygon of a run of two or more ranges
 --     one_line, two_line         a run of one range, of two, has a line
@@ -17,7 +16,6 @@
 use Rattle.std.specs.Prelude.{◌≡◌, true, false, List, [], ◌∷◌, ◌++◌, ℕ, suc, ◌+◌, ◌-◌, ◌<◌, ◌≤◌, pos, length, take, drop}
 use Rattle.std.proofs.Common.{sym, ◌∙◌, ap, ap₂, subst, arith, add-one, length-drop, take-append-drop, take-suc, drop-drop, get_or-drop, length-take-le}
 use Rattle.std.specs.Int.Signed.{le_z, lt_z}
-use Rattle.std.proofs.Math.Seq.{take-append-add}
 use Rattle.definitions.specs.Ranges.{Range, Lists, ranges_of}
 use Rattle.definitions.specs.Fit.{HasLine, Ordered}
 use Rattle.splits.specs.OrderedRanges.{ordered-left, ordered-right}
@@ -70,11 +68,6 @@ module _ (ls : Lists) (a : AcceptedLists ls) where
   run_rest i e h =
       let m : i + (e - i) ≡ e = omega arith in
       sym (take-append-drop (e - i) (drop i (ranges_of ls))) ∙ ap (λ rs. run ls i e ++ rs) (drop-drop (e - i) i (ranges_of ls) ∙ ap (λ k. drop k (ranges_of ls)) m)
-
-  pub run_joined : (i e k : ℕ) → i ≤ e → e ≤ k → k ≤ length ls.times → run ls i k ≡ run ls i e ++ run ls e k
-  run_joined i e k h l within =
-      let n : k - i ≡ length (run ls i e) + (k - e) = omega (arith, run_length i e (omega arith)) in
-      ap₂ take n (run_rest i e h) ∙ take-append-add (run ls i e) (drop e (ranges_of ls)) (k - e)
 
   pub run_ordered : (i e : ℕ) → Ordered (run ls i e)
   run_ordered i e =

@@ -5,4 +5,5 @@ pub mod Cuts
 pub mod Joins
 pub mod RunsFrom
 pub mod RunsOn
+pub mod LastRuns
 pub mod RunOutlooks

@@ -5,7 +5,6 @@
 --     numbers_found          then the eight numbers are those of its outlook
 --     trend_at, promise_below, numbers-below   then the numbers set and the slices are what the call below gives and leaves, so latest's theorems are about them
 --     latest-below           of any number: what the library gives and leaves is what the call below gives and leaves with this answer
---     ranges_limit           at most 1,024 ranges are set
 --     few_iff                fewer than two ranges are set exactly if the lists have fewer than two
 --     zeros_iff, corners_iff and exactly then each of the eight numbers is 0, and the count of corners: no range and one range are open
 --     lines_told             else they are the lines and times of the last ranges, as many as are set
@@ -25,7 +24,7 @@ use Rattle.std.proofs.Math.IntN.{pos}
 use Rattle.std.proofs.Math.ListN.{length}
 use Rattle.std.specs.Int.Signed.{<ℤ_irrefl}
 use Rattle.definitions.specs.Services.{Service}
-use Rattle.definitions.specs.Spans.{segment_limit, segment_room, corner_room}
+use Rattle.definitions.specs.Spans.{segment_room, corner_room}
 use Rattle.definitions.specs.Ranges.{Lists, ranges_of}
 use Rattle.definitions.specs.Outlook.{Outlook as OutlookTerm}
 use Rattle.definitions.specs.Results.{segments_of, slow_line, fast_line, some_number, all_number, outlook_numbers, last_eight}
@@ -43,7 +42,7 @@ use Rattle.latest.specs.declared.LatestAnswer.{LatestAnswer}
 use Rattle.latest.specs.declared.LatestAnswer.TheVariants.{Accepted, Refused}
 use Rattle.latest.specs.LatestPromise.{told_of, trend_meaning, latest_meaning, LatestPromise}
 use Rattle.latest.specs.GivenTrends.{last_ranges, run_length}
-use Rattle.latest.specs.LatestTheorems.{given_limit, given_two, given_open, given_few, given_lines_is, given_some}
+use Rattle.latest.specs.LatestTheorems.{given_two, given_open, given_few, given_lines_is, given_some}
 use Rattle.latest.specs.AgainstSegment.{rows_same, covers_last, agrees_outlook}
 use Rattle.latest.specs.CutFromEnd.{without, CallsFromEnd, nothing_left, one_call, rest_accepted, calls_count}
 use Rattle.answer_numbers.specs.Told.{eight}
@@ -93,9 +92,6 @@ module _ {v : Service} {ls : Lists} {old new : LatestLent} {number : ℕ} (after
 
     pub numbers-below : new.numbers ≡ outlook_numbers (outlook_of trend_at.outlook)
     numbers-below = numbers_found ∙ ap outlook_numbers (sym (outlook-means trend_found.0.outlook))
-
-    pub ranges_limit : new.ranges ≤ segment_limit
-    ranges_limit = given_limit promise_below
 
     pub few_iff : (new.ranges < 2) ↔ (length ls.times < 2)
     few_iff = (λ h. by h (ltb (length ls.times) 2) refl, λ h. omega (arith, (given_few promise_below h).0))

@@ -14,8 +14,10 @@ use Rattle.std.proofs.lemmas.List.{get_or_at}
 use Rattle.definitions.specs.Spans.{segment_room, corner_room}
 use Rattle.definitions.specs.Services.{Service}
 use Rattle.definitions.specs.Ranges.{Range, Lists, ranges_of}
+use Rattle.definitions.specs.Lines.{has_line}
+use Rattle.definitions.specs.Fit.{HasLine}
 use Rattle.definitions.specs.Splits.{GoodRuns, last_run}
-use Rattle.definitions.specs.Segments.{segments, one_segment, OneSegment}
+use Rattle.definitions.specs.Segments.{segments}
 use Rattle.definitions.specs.Outlook.{outlook}
 use Rattle.definitions.specs.Results.{segment_of, numbers_of, outlook_numbers, last_eight}
 use Rattle.definitions.specs.Answers.{refused}
@@ -23,7 +25,7 @@ use Rattle.definitions.specs.Trial.{too_short, list_rows, segment_rows, latest_r
 use Rattle.trial_laws.specs.Rows.{FirstAt}
 use Rattle.trial_laws.specs.RangeLists.{ranges_length}
 use Rattle.splits.specs.Effects.{segments_of-length}
-use Rattle.splits.specs.Runs.{good_run, good_at}
+use Rattle.splits.specs.Runs.{good-run, good_at}
 use Rattle.splits.specs.Cutting.{cut_last, cut_ends}
 use Rattle.splits.specs.Segments.{segments_of-at}
 use Rattle.lines.specs.Theorems.{segments_split}
@@ -69,11 +71,11 @@ module _ {v : Service} {ls : Lists} {ps qs ds ps' qs' ds' : List ℤ} {t : Trend
 
   runs_are : runs ≡ drop_last runs ++ (last_run runs ∷ [])
   unfolding segments
-  runs_are = cut_last one_segment rs long
+  runs_are = cut_last has_line rs long
 
   ends : flatten (drop_last runs) ++ last_run runs ≡ rs
   unfolding segments
-  ends = cut_ends one_segment rs long
+  ends = cut_ends has_line rs long
 
   count : m ≡ suc (length (drop_last runs))
   count = count-is segmented ∙ segments_of-length v rs ∙ ap length runs_are ∙ omega (arith, length-append (drop_last runs) (last_run runs ∷ []))
@@ -94,12 +96,12 @@ module _ {v : Service} {ls : Lists} {ps qs ds ps' qs' ds' : List ℤ} {t : Trend
   row_eight [] = refl
   row_eight (r ∷ run) = refl
 
-  last_good : OneSegment (last_run runs)
-  last_good = good_run OneSegment (last_run runs) (good_at OneSegment (drop_last runs) (last_run runs) [] (subst (GoodRuns OneSegment) runs_are (segments_split rs (ordered promise)).each))
+  last_line : HasLine (last_run runs)
+  last_line = good-run HasLine (last_run runs) (good_at HasLine (drop_last runs) (last_run runs) [] (subst (GoodRuns HasLine) runs_are (segments_split rs (ordered promise)).each))
 
   pub covers_last : (row_at new (m - 1)).count ≤ t.ranges
   covers_last =
-      let most = latest_longest rs (ordered promise) (flatten (drop_last runs)) (last_run runs) (sym ends) last_good.is_good last_good.within in
+      let most = latest_longest rs (ordered promise) (flatten (drop_last runs)) (last_run runs) (sym ends) last_line in
       omega (arith, most, ap (λ n. n.count) last_row, row_count (last_run runs), ap length (run_is promise), (run_length promise).0)
 
   -- the last segment, where it has as many ranges

@@ -6,7 +6,7 @@
 --     rest_accepted          where a call accepted the lists, the next one accepts what is left, if its slices are long enough
 --     rest_shorter           less is left after each call, so the calls come to an end
 --     Answers, calls_exist   whatever keeps the promise of Latest on all lists: where it accepts some lists, such calls can be made from there on to the end
---     calls_split            the runs, turned round, are a split of the trace, each with at most 1,024 ranges
+--     calls_split            the runs, turned round, are a split of the trace
 --     calls_count            there are as many calls as Segment gives segments
 --     calls_fewest           every split has at least as many runs
 --
@@ -17,9 +17,9 @@ use Rattle.std.proofs.Math.Seq.{length-take-le}
 use Rattle.definitions.specs.Spans.{most_ranges, corner_room}
 use Rattle.definitions.specs.Services.{Service}
 use Rattle.definitions.specs.Ranges.{Range, Lists, zip_ranges, ranges_of}
-use Rattle.definitions.specs.Fit.{Ordered}
+use Rattle.definitions.specs.Fit.{HasLine, Ordered}
 use Rattle.definitions.specs.Splits.{GoodRun, Split}
-use Rattle.definitions.specs.Segments.{segments, OneSegment}
+use Rattle.definitions.specs.Segments.{segments}
 use Rattle.definitions.specs.Answers.{refused}
 use Rattle.definitions.specs.Trial.{too_short}
 use Rattle.trial_laws.specs.Rows.{first_row-accepted, refused_not_accepted}
@@ -69,7 +69,7 @@ module _ {v : Service} {ls : Lists} {ps qs ds ps' qs' ds' : List ℤ} {t : Trend
   pub rest_shorter : 0 < length ls.times → length (without t.ranges ls).times < length ls.times
   rest_shorter some = omega (arith, left_length, some_told (last_ranges t.ranges ls) (run_length promise).0 (run_good promise some))
     where
-      some_told : (rs : List Range) → length rs ≡ t.ranges → GoodRun OneSegment rs → 0 < t.ranges
+      some_told : (rs : List Range) → length rs ≡ t.ranges → GoodRun HasLine rs → 0 < t.ranges
       some_told [] e g = absurd g
       some_told (r ∷ rs) e g = omega arith
 
@@ -109,13 +109,13 @@ module _ {v : Service} {ls : Lists} {trends : List Trend} (calls : CallsFromEnd 
       by (nothing_left e) = subst Ordered (sym (no-ranges ls e)) tt
       by (one_call some promise rest) = ordered promise
 
-  pub calls_split : Split OneSegment (ranges_of ls) (reverse (runs_in ls trends))
+  pub calls_split : Split HasLine (ranges_of ls) (reverse (runs_in ls trends))
   calls_split = from_end-split calls_ordered (from_end calls)
 
   as_many : length trends ≡ length (segments (ranges_of ls))
   as_many = sym (runs-count ls trends) ∙ from_end-count calls_ordered (from_end calls)
 
-  pub calls_fewest : (runs : List (List Range)) → Split OneSegment (ranges_of ls) runs → length trends ≤ length runs
+  pub calls_fewest : (runs : List (List Range)) → Split HasLine (ranges_of ls) runs → length trends ≤ length runs
   calls_fewest runs split = omega (arith, as_many, segments_fewest (ranges_of ls) calls_ordered runs split)
 
   pub calls_count : {old new : Columns} {m : ℕ} → SegmentPromise v ls old new (Segmented m) → length trends ≡ m

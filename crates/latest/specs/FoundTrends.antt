@@ -1,30 +1,28 @@
 -- The trend of two ranges or more, from the runs that code found.
 --
---     Ready              where no row holds and there are two ranges or more, and at most 1,024: what finding the trend takes
+--     Ready              where no row holds and there are two ranges or more: what finding the trend takes
 --     TrendGiven         the trend that is told, and the corners in the slices
 --     fit-corners, short_open   two ranges or more have corners; fewer are open, without corners
 --     polygon_at, line_at   the run that begins where the latest run does goes up to the last range: its polygon, and that it has a line
 --     trend_given        what its outlook and its listed corners tell is the trend
---     trend_of-last      the trend of the last ranges, as many as one segment can have, is that of all
 --
 -- Assumes nothing.
 use Rattle.std.specs.Prelude.{◌≡◌, refl, List, [], ◌∷◌, ℕ, ◌+◌, ◌-◌, ◌<◌, ◌≤◌, ℤ, get_or}
 use Rattle.std.proofs.Math.Path.{sym, ap, subst}
 use Rattle.std.proofs.Common.{◌∙◌, le_refl, arith}
 use Rattle.std.proofs.Math.ListN.{length}
-use Rattle.definitions.specs.Spans.{segment_limit, corner_room}
+use Rattle.definitions.specs.Spans.{corner_room}
 use Rattle.definitions.specs.Services.{Service}
 use Rattle.definitions.specs.Ranges.{Range, Lists, ranges_of}
 use Rattle.definitions.specs.Fit.{HasLine}
 use Rattle.definitions.specs.Corners.{corners}
-use Rattle.definitions.specs.Segments.{OneSegment}
 use Rattle.definitions.specs.Calls.{fit_of, corners_in}
 use Rattle.definitions.specs.Outlook.{open_strip, outlook}
 use Rattle.definitions.specs.Latest.{latest_run, trend_of}
 use Rattle.trial_laws.specs.RangeLists.{ranges_length}
 use Rattle.trial_laws.specs.Accepted.{AcceptedLists}
-use Rattle.splits.specs.Runs.{good_run}
-use Rattle.lines.specs.LatestTrend.{latest_has_line, latest_of-last}
+use Rattle.splits.specs.Runs.{good-run}
+use Rattle.lines.specs.LatestTrend.{latest_has_line}
 use Rattle.drift_laws.specs.ChainParts.{Chain}
 use Rattle.drift_laws.specs.LineRows.{RowRoom, RowsFirst}
 use Rattle.drift_laws.specs.RunsByPlace.{run, run_length}
@@ -34,18 +32,15 @@ use Rattle.values.specs.Reach.{look_ahead}
 use Rattle.fit.specs.declared.run.Reach.{Reach}
 use Rattle.fit.specs.RunsFrom.{RunFrom, PolygonAt}
 use Rattle.fit.specs.RunOutlooks.{run_outlook}
-use Rattle.segment_runs.specs.LimitedRuns.{LimitedStart}
 use Rattle.corner_list.specs.RunCorners.{RunCorners}
 use Rattle.drift.specs.Filling.{Tried}
 use Rattle.latest.specs.declared.Trend.{Trend}
 use Rattle.latest.specs.LatestPromise.{told_of, trend_meaning}
-use Rattle.drift_laws.specs.LastRanges.{last_entries, last-ranges}
 use Rattle.latest.specs.LatestStarts.{LatestStart, start-two, run_whole}
 
 pub record Ready (v : Service) (ls : Lists) (ps qs ds : List ℤ) : Type 0 where
   pub tried : Tried v ls
   pub two : 2 ≤ length ls.times
-  pub few : length ls.times ≤ segment_limit
   pub room : RowRoom corner_room ps qs ds
 
 pub record TrendGiven (v : Service) (ls : Lists) (ps qs ds ps' qs' ds' : List ℤ) (t : Trend) : Type 0 where
@@ -76,7 +71,7 @@ module _ {v : Service} {ls : Lists} (tried : Tried v ls) (more : 2 ≤ length ls
 
   pub line_at : HasLine (run ls s n)
   line_at =
-      subst HasLine z.run_is (good_run OneSegment (latest_run (ranges_of ls)) (latest_has_line (ranges_of ls) a.ranges.ordered (omega (arith, more, ranges_length ls a.same)))).is_good
+      subst HasLine z.run_is (good-run HasLine (latest_run (ranges_of ls)) (latest_has_line (ranges_of ls) a.ranges.ordered (omega (arith, more, ranges_length ls a.same))))
 
   end_is : r.end ≡ n
   end_is = run_whole a (le_refl n) line_at f
@@ -105,9 +100,3 @@ module _ {v : Service} {ls : Lists} (tried : Tried v ls) (more : 2 ≤ length ls
         told = λ i. record { ranges = ranges_are i; outlook = outlook_is o e i; corners = (listed.count ∙ ap length corners_are) i };
         rows = subst (λ ks. RowsFirst ks ps qs ds ps' qs' ds') corners_are listed.rows;
       }
-
-pub trend_of-last : {v : Service} {ls : Lists} {ps qs ds ps' qs' ds' : List ℤ} {t : Trend} → AcceptedLists ls → (k : ℕ) → LimitedStart (length ls.times) k
-    → TrendGiven v (last_entries k ls) ps qs ds ps' qs' ds' t → TrendGiven v ls ps qs ds ps' qs' ds' t
-trend_of-last {v} {ls} {ps} {qs} {ds} {ps'} {qs'} {ds'} a k l g =
-    let same = ap latest_run (last-ranges k ls) ∙ sym (latest_of-last (ranges_of ls) k (λ some. omega (arith, l.is_least some, ranges_length ls a.same))) in
-    record { told = g.told ∙ ap (λ run. told_of (trend_of v run)) same; rows = subst (λ run. RowsFirst (corners_in (fit_of run)) ps qs ds ps' qs' ds') same g.rows }

@@ -5,7 +5,7 @@
 --     taken_good, taken, taken_few, ordered   no row held: the service is good, the lists are acceptable and have at most 4,096 ranges, and their times rise
 --     trend_is, called       the trend that is told, and the call's result
 --     run_is                 the last ranges, as many as are told, are the latest run
---     run_length, run_ordered, run_good   how many they are, that their times rise, and that some line fits them and they are at most 1,024, if there are any
+--     run_length, run_ordered, run_good   how many they are, that their times rise, and that some line fits them if there are any
 --     told_outlook           the outlook that is told is theirs
 --
 -- Assumes nothing.
@@ -15,9 +15,8 @@ use Rattle.std.proofs.Math.Path.{ap}
 use Rattle.definitions.specs.Spans.{most_ranges, corner_room}
 use Rattle.definitions.specs.Services.{Service}
 use Rattle.definitions.specs.Ranges.{Range, Lists, ranges_of}
-use Rattle.definitions.specs.Fit.{Ordered}
+use Rattle.definitions.specs.Fit.{HasLine, Ordered}
 use Rattle.definitions.specs.Splits.{GoodRun}
-use Rattle.definitions.specs.Segments.{OneSegment}
 use Rattle.definitions.specs.Outlook.{outlook}
 use Rattle.definitions.specs.Answers.{accepted, ◌>>=◌, firstRow}
 use Rattle.definitions.specs.Trial.{too_short, latest_rows}
@@ -96,8 +95,8 @@ module _ {v : Service} {ls : Lists} {ps qs ds ps' qs' ds' : List ℤ} {t : Trend
   pub run_ordered : Ordered (last_ranges t.ranges ls)
   run_ordered = subst Ordered (sym run_is) (ordered-right (take (rest_of rs) rs) (latest_run rs) (subst Ordered (latest-suffix rs).0 ordered))
 
-  pub run_good : 0 < length ls.times → GoodRun OneSegment (last_ranges t.ranges ls)
-  run_good some = subst (GoodRun OneSegment) (sym run_is) (latest_has_line rs ordered (omega (arith, some, ranges_length ls taken.same)))
+  pub run_good : 0 < length ls.times → GoodRun HasLine (last_ranges t.ranges ls)
+  run_good some = subst (GoodRun HasLine) (sym run_is) (latest_has_line rs ordered (omega (arith, some, ranges_length ls taken.same)))
 
   pub told_outlook : outlook_of t.outlook ≡ outlook v (last_ranges t.ranges ls)
   unfolding trend_of

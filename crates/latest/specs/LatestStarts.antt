@@ -2,14 +2,14 @@
 --
 --     LatestStart ls s         the latest run goes from s up to the last range
 --     start-two                it has two ranges or more where there are so many
---     start_found              so it does where the run over the trace read backward stops, of at most 1,024 ranges
+--     start_found              so it does where the run over the trace read backward stops
 --     rest-run                 the ranges from s on are the run from s up to the last range
 --     run_whole                a run from s that has a line up to the last range goes so far
 --
 -- Assumes nothing.
 use Rattle.std.specs.Prelude.{◌≡◌, refl, Bool, true, false, [], ◌∷◌, ◌++◌, ℕ, suc, ◌+◌, ◌-◌, ◌≤◌, ◌<◌, ltb, length, take, drop}
 use Rattle.std.proofs.Common.{sym, ap, ap₂, ◌∙◌, subst, add-one, le_refl, arith, ltb-true, ltb-false, length-drop, take_all}
-use Rattle.definitions.specs.Spans.{most_time, segment_limit}
+use Rattle.definitions.specs.Spans.{most_time}
 use Rattle.definitions.specs.Ranges.{Lists, ranges_of}
 use Rattle.definitions.specs.Fit.{HasLine}
 use Rattle.definitions.specs.Latest.{latest_run}
@@ -19,9 +19,10 @@ use Rattle.lines.specs.HasLine.{HasLine_left}
 use Rattle.lines.specs.BackwardTimes.{backward, latest_by_backward, backward_length}
 use Rattle.lines.specs.LatestTrend.{latest_two}
 use Rattle.drift_laws.specs.ChainParts.{Chain}
-use Rattle.drift_laws.specs.RunsByPlace.{run, run_more, run_length, run_joined}
+use Rattle.drift_laws.specs.RunsByPlace.{run, run_more, run_length}
 use Rattle.fit.specs.declared.run.Reach.{Reach}
 use Rattle.fit.specs.RunsFrom.{RunFrom}
+use Rattle.fit.specs.LastRuns.{run_joined}
 use Rattle.latest.specs.ReadBackward.{ReadBackward, backward-ranges, backward-accepted}
 
 pub record LatestStart (ls : Lists) (s : ℕ) : Type 0 where
@@ -37,7 +38,7 @@ start-two {ls} a two {s} z =
     let long = ranges_length ls a.same in
     omega (arith, latest_two (ranges_of ls) a.ranges.ordered (omega arith), ap length z.run_is, run_length ls a s n (le_refl n))
 
-module _ {ls bs : Lists} (a : AcceptedLists ls) (few : length ls.times ≤ segment_limit) (copied : ReadBackward ls bs) {up down : Chain} {f : Reach} (r : RunFrom (first_entries (length ls.times) bs) 0 (length ls.times) up down f) where
+module _ {ls bs : Lists} (a : AcceptedLists ls) (copied : ReadBackward ls bs) {up down : Chain} {f : Reach} (r : RunFrom (first_entries (length ls.times) bs) 0 (length ls.times) up down f) where
   abbrev n : ℕ
   n = length ls.times
 
@@ -60,7 +61,7 @@ module _ {ls bs : Lists} (a : AcceptedLists ls) (few : length ls.times ≤ segme
   start_found =
       let long = ranges_length ls a.same in
       let within = r.within in
-      let found = latest_by_backward most_time (ranges_of ls) f.end copied.until a.ranges.ordered (omega arith) (omega arith) (subst HasLine (first_run f.end) r.line)
+      let found = latest_by_backward most_time (ranges_of ls) f.end copied.until a.ranges.ordered (omega arith) (subst HasLine (first_run f.end) r.line)
       (λ less line. r.closed (omega arith) (subst HasLine (sym (one_more (omega arith))) line)) in
       record { run_is = found ∙ ap (λ i. drop (i - f.end) (ranges_of ls)) long ∙ rest-run a (n - f.end) }
 
@@ -70,7 +71,7 @@ module _ {ls : Lists} (a : AcceptedLists ls) {s n : ℕ} {up down : Chain} {f : 
   longer h =
       let begins = r.begins in
       subst HasLine (run_more ls a s f.end (omega arith) (omega arith))
-      (HasLine_left (run ls s (f.end + 1)) (run ls (f.end + 1) n) (subst HasLine (run_joined ls a s (f.end + 1) n (omega arith) (omega arith) upto) line))
+      (HasLine_left (run ls s (f.end + 1)) (run ls (f.end + 1) n) (subst HasLine (run_joined a n upto s (f.end + 1) (omega arith) (omega arith)) line))
 
   pub run_whole : f.end ≡ n
   run_whole = by (ltb f.end n) refl

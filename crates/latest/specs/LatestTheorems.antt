@@ -2,8 +2,8 @@
 -- are the first n entries of three slices.
 -- Where it gave a trend t
 --     given_ranges               t's ranges are the last of the lists, so many of them
---     given_line, given_limit    some line fits them, and there are some where the lists are not empty; they are at most 1,024
---     given_longest              no longer end of the lists with at most 1,024 ranges has a line
+--     given_line                 some line fits them, and there are some where the lists are not empty
+--     given_longest              no longer end of the lists has a line
 --     given_two                  they are two or more where the lists have so many
 --     given_open                 the outlook is open exactly if the lists have fewer than two ranges: none at all, or one
 --     given_few, given_none      then all ranges are given, there are no corners, as their fit has none, and the slices hold their old contents
@@ -30,23 +30,20 @@ use native.Mathlib.Omega.{arith}
 use Rattle.std.proofs.Math.ListN.{length}
 use Rattle.integers.specs.Lists.{All, In}
 use Rattle.integers.specs.LowestTerms.{InLowestTerms}
-use Rattle.definitions.specs.Spans.{segment_limit}
 use Rattle.definitions.specs.Services.{Service}
 use Rattle.definitions.specs.Ranges.{Range, Lists, ranges_of}
 use Rattle.definitions.specs.Lines.{Line}
 use Rattle.definitions.specs.Corners.{corners}
 use Rattle.definitions.specs.Fit.{InFit, HasLine, Ordered, WeightedMean, Corner, InCornerOrder}
 use Rattle.definitions.specs.Splits.{GoodRun}
-use Rattle.definitions.specs.Segments.{OneSegment}
 use Rattle.definitions.specs.Outlook.{open_strip, outlook, end_time, Outlook as OutlookTerm}
 use Rattle.definitions.specs.Answers.{refused}
 use Rattle.definitions.specs.Calls.{fit_of, corners_in}
 use Rattle.definitions.specs.Latest.{trend_of, latest_call}
 use Rattle.trial_laws.specs.CallLaws.{bind-refused}
 use Rattle.trial_laws.specs.RangeLists.{range_at, ranges_length}
-use Rattle.splits.specs.Runs.{good_run}
+use Rattle.splits.specs.Runs.{good-run}
 use Rattle.splits.specs.OrderedRanges.{last_time_of, last-append}
-use Rattle.splits.specs.Segments.{segment-has_line}
 use Rattle.lines.specs.RunOutlook.{LinesOf, run-lines}
 use Rattle.lines.specs.OneRange.{few_no_corner}
 use Rattle.lines.specs.Diagonal.{ByDiagonal}
@@ -80,19 +77,12 @@ module _ {v : Service} {ls : Lists} {ps qs ds ps' qs' ds' : List ℤ} {t : Trend
   given_ranges = (sym (take-append-drop (length ls.times - t.ranges) rs), (run_length promise).0)
 
   pub given_line : 0 < length ls.times → GoodRun HasLine last
-  given_line some = segment-has_line last (run_good promise some)
+  given_line = run_good promise
 
-  pub given_limit : t.ranges ≤ segment_limit
-  given_limit = by (ltb 0 (length ls.times)) refl
-    where
-      by : (b : Bool) → ltb 0 (length ls.times) ≡ b → t.ranges ≤ segment_limit
-      by true e = omega (arith, (run_length promise).0, (good_run OneSegment last (run_good promise (ltb-true 0 (length ls.times) e))).within)
-      by false e = omega (arith, (run_length promise).1, ltb-false 0 (length ls.times) e)
-
-  pub given_longest : (k : ℕ) → k ≤ length ls.times → k ≤ segment_limit → HasLine (last_ranges k ls) → k ≤ t.ranges
-  given_longest k h few line =
+  pub given_longest : (k : ℕ) → k ≤ length ls.times → HasLine (last_ranges k ls) → k ≤ t.ranges
+  given_longest k h line =
       let m = length ls.times - k in
-      let most = latest_longest rs (ordered promise) (take m rs) (drop m rs) (sym (take-append-drop m rs)) line (omega (arith, length-drop m rs, long)) in
+      let most = latest_longest rs (ordered promise) (take m rs) (drop m rs) (sym (take-append-drop m rs)) line in
       omega (arith, most, ap length (run_is promise), (run_length promise).0, length-drop m rs, long)
 
   pub given_two : 2 ≤ length ls.times → 2 ≤ t.ranges
@@ -110,7 +100,7 @@ module _ {v : Service} {ls : Lists} {ps qs ds ps' qs' ds' : List ℤ} {t : Trend
   pub given_lines_is : 2 ≤ length ls.times → LinesOf v last (get_or ls.times (length ls.times - 1) 0) (outlook_of t.outlook)
   given_lines_is h =
       let two = given_two h in
-      let means = run-lines v (taken_good promise).direction_in_is (taken_good promise).step_good.over last (omega (arith, (run_length promise).0)) (run_ordered promise) (good_run HasLine last (given_line (omega arith))) in
+      let means = run-lines v (taken_good promise).direction_in_is (taken_good promise).step_good.over last (omega (arith, (run_length promise).0)) (run_ordered promise) (good-run HasLine last (given_line (omega arith))) in
       subst (LinesOf v last (get_or ls.times (length ls.times - 1) 0)) (sym (told_outlook promise)) (subst (λ x. LinesOf v last x (outlook v last)) (last-time (omega arith) (omega arith)) means)
 
   few_run : length ls.times < 2 → last ≡ rs

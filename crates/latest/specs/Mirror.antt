@@ -27,7 +27,6 @@ use Rattle.trial_laws.specs.CallLaws.{then-then, then-known}
 use Rattle.trial_laws.specs.Accepted.{latest-accepted}
 use Rattle.trial_laws.specs.MirroredTrial.{ranges-mirrored, latest_trial_mirrored}
 use Rattle.splits.specs.OrderedRanges.{ordered-right}
-use Rattle.splits.specs.Segments.{segment-has_line}
 use Rattle.lines.specs.Mirrored.{mirrored}
 use Rattle.lines.specs.MirroredOutlook.{outlook_mirrored}
 use Rattle.lines.specs.MirroredCorners.{TurnedRing, ring-length, corners_mirrored}
@@ -71,7 +70,7 @@ module _ (v : Service) (ls : Lists) (ns ns' : List ℕ) (alike : too_short corne
       let run_ordered = ordered-right (take (rest_of rs) rs) (latest_run rs) (subst Ordered whole order) in
       let ranges_are = ap length run_mirrored ∙ length-map (latest_run rs) mirrored_range in
       let outlook_is = ap (outlook (mirrored_service v)) run_mirrored ∙ outlook_mirrored v h.1.direction_in_is (latest_run rs) run_ordered in
-      let count-is = ap (λ run. length (corners_in (fit_of run))) run_mirrored ∙ count-mirrored (latest_run rs) run_ordered (λ some. segment-has_line (latest_run rs) (latest_has_line rs order (omega arith))) in
+      let count-is = ap (λ run. length (corners_in (fit_of run))) run_mirrored ∙ count-mirrored (latest_run rs) run_ordered (λ some. latest_has_line rs order (omega arith)) in
       λ i. record { ranges = ranges_are i; outlook = outlook_is i; corners = count-is i }
 
   pub latest_told_mirrored : (latest_call ns' (mirrored_service v) (mirrored_lists ls) >>= λ t. accepted (told_of t)) ≡ (latest_call ns v ls >>= λ t. accepted (mirrored_told (told_of t)))

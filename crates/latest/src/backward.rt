@@ -1,13 +1,13 @@
-// Where the latest run begins: a fit that goes forward over the last ranges, read from the end.
+// Where the latest run begins: a fit that goes forward over the trace read from its end.
 ghost use Rattle.std.specs.Prelude.{◌<◌, ◌≤◌, length};
-ghost use Rattle.definitions.specs.Spans.{segment_limit};
+ghost use Rattle.definitions.specs.Spans.{most_ranges};
 ghost use Rattle.trial_laws.specs.Accepted.{AcceptedLists};
 ghost use Rattle.drift_laws.specs.RangeEnds.{lent};
 ghost use Rattle.drift_laws.specs.ChainParts.{chain, Long};
 ghost use Rattle.latest.specs.ReadBackward.{RoomFor, ReadBackward};
 ghost use Rattle.latest.specs.LatestStarts.{LatestStart};
 
-use definitions::limits::{MOST_TIME, SEGMENT_LIMIT};
+use definitions::limits::{MOST_RANGES, MOST_TIME};
 use fit::run::run_from;
 
 // Copies the ranges from the last to the first, each with the time that is left from its own to the last that there is: the copy's times rise again.
@@ -33,7 +33,7 @@ fn read_backward(
     }
 }
 
-// The number of the latest run's first range, among ranges that can be one segment by their number.
+// The number of the latest run's first range, in a trace that has some.
 pub fn latest_start(
     times: &[u32],
     highs: &[i32],
@@ -43,12 +43,12 @@ pub fn latest_start(
     down_times: &mut [u32],
     down_values: &mut [i32],
 ) -> usize
-    requires { (AcceptedLists (lent times.now highs.now lows.now)) × (0 < length times.now) × (length times.now ≤ segment_limit) × (Long segment_limit (chain up_times.old up_values.old)) × (Long segment_limit (chain down_times.old down_values.old)) }
+    requires { (AcceptedLists (lent times.now highs.now lows.now)) × (0 < length times.now) × (length times.now ≤ most_ranges) × (Long most_ranges (chain up_times.old up_values.old)) × (Long most_ranges (chain down_times.old down_values.old)) }
     ensures { LatestStart (lent times.now highs.now lows.now) result }
 {
-    let mut back_times = [0u32; SEGMENT_LIMIT];
-    let mut back_highs = [0i32; SEGMENT_LIMIT];
-    let mut back_lows = [0i32; SEGMENT_LIMIT];
+    let mut back_times = [0u32; MOST_RANGES];
+    let mut back_highs = [0i32; MOST_RANGES];
+    let mut back_lows = [0i32; MOST_RANGES];
     read_backward(
         times,
         highs,

@@ -1,4 +1,4 @@
-// The latest trend of a trace: the longest run at its end that some line fits, within the limit for segments, its outlook and its corners. Only the call is open to outsiders.
+// The latest trend of a trace: the longest run at its end that some line fits, its outlook and its corners. Only the call is open to outsiders.
 mod backward; // backward.rt: where the latest run begins
 
 ghost use Rattle.values.specs.Meanings.{service_of};
@@ -7,9 +7,8 @@ ghost use Rattle.latest.specs.FoundTrends.{Ready, TrendGiven};
 
 use backward::latest_start;
 use corner_list::list_corners;
-use definitions::limits::{CORNER_ROOM, SEGMENT_LIMIT};
+use definitions::limits::{CORNER_ROOM, MOST_RANGES};
 use fit::run::run_from;
-use segment_runs::limit::limited_start;
 use trial::three_short;
 use values::reaching::outlook_of;
 use values::{Outlook, Service};
@@ -29,7 +28,7 @@ pub enum LatestAnswer {
     Refused(u8),
 }
 
-// The trend of two ranges or more, and no more than one segment can have: where the latest run begins, the fit from there on, and its corners into the slices.
+// The trend of two ranges or more: where the latest run begins, the fit from there on, and its corners into the slices.
 fn find_trend(
     v: Service,
     times: &[u32],
@@ -42,10 +41,10 @@ fn find_trend(
     requires { Ready (service_of v) (record { times = times.now; lows = lows.now; highs = highs.now }) ps.old qs.old ds.old }
     ensures { TrendGiven (service_of v) (record { times = times.entry.now; lows = lows.now; highs = highs.now }) ps.old qs.old ds.old ps.new qs.new ds.new result }
 {
-    let mut up_times = [0u32; SEGMENT_LIMIT];
-    let mut up_values = [0i32; SEGMENT_LIMIT];
-    let mut down_times = [0u32; SEGMENT_LIMIT];
-    let mut down_values = [0i32; SEGMENT_LIMIT];
+    let mut up_times = [0u32; MOST_RANGES];
+    let mut up_values = [0i32; MOST_RANGES];
+    let mut down_times = [0u32; MOST_RANGES];
+    let mut down_values = [0i32; MOST_RANGES];
     let start = latest_start(
         times,
         highs,
@@ -125,15 +124,6 @@ pub fn latest(
         direction,
         step,
     };
-    let first = limited_start(n);
-    let found = find_trend(
-        v,
-        &times[first..],
-        &lows[first..],
-        &highs[first..],
-        ps,
-        qs,
-        ds,
-    );
+    let found = find_trend(v, times, lows, highs, ps, qs, ds);
     LatestAnswer::Accepted(found)
 }

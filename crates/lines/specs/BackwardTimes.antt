@@ -6,28 +6,26 @@
 --     backward_length          as many
 --     backward_ordered         they are ordered where the ranges are
 --     backward_line            they have a line exactly if the ranges have
---     latest_by_backward       of at most 1,024 ranges: where their first e have a line, and not with one more, the latest run is the last e ranges
+--     latest_by_backward       where their first e have a line, and not with one more, the latest run is the last e ranges
 --
 -- Assumes nothing.
 use Rattle.std.specs.Prelude.{◌≡◌, ◌↔◌, ℕ, suc, ◌+◌, ◌-◌, ◌<◌, ◌≤◌, ℤ, pos, negsuc, neg_ℤ, ◌+ℤ◌, ◌-ℤ◌, ◌*ℤ◌, ◌≤ℤ◌, length, take, drop}
-use Rattle.std.proofs.Common.{sym, ap, ◌∙◌, arith, take-append-drop, take_at}
+use Rattle.std.proofs.Common.{sym, ap, ◌∙◌, arith, length-drop, take-append-drop, take_at}
 use Rattle.std.proofs.Math.Path.{subst}
 use mathlib.Core.List.{List, [], ◌∷◌, ◌++◌, map, reverse, map-append, reverse-append, reverse-cons, reverse-reverse}
 use Rattle.std.proofs.lemmas.List.{length-map, length-reverse}
-use Rattle.std.proofs.Math.ListN.{length-drop}
 use Rattle.integers.specs.Quotes.{quotes, ring! }
 use Rattle.integers.specs.RingSolver.{var, lit, ◌:*◌}
 use Rattle.integers.specs.Certificates.{num, eqn}
 use Rattle.integers.specs.Solve.{claims, certify! }
 use Rattle.integers.specs.Lists.{All, nil, cons, All-map, All_map_inv, All_imp₂, All-reverse, All-tail, All_append_right}
-use Rattle.definitions.specs.Spans.{segment_limit}
 use Rattle.definitions.specs.Ranges.{Range}
 use Rattle.definitions.specs.Lines.{Line, reading}
 use Rattle.definitions.specs.Fit.{FitsRange, HasLine, Ordered}
 use Rattle.definitions.specs.Latest.{latest_run}
 use Rattle.splits.specs.OrderedRanges.{ordered-append}
 use Rattle.splits.specs.LatestRuns.{latest_drop}
-use Rattle.lines.specs.Polygon.{decides-segment}
+use Rattle.lines.specs.Polygon.{decides}
 
 abbrev pub back_time : ℕ → Range → Range
 back_time m r = record { time = m - r.time; low = r.low; high = r.high }
@@ -109,12 +107,10 @@ module _ (m : ℕ) where
       ∙ ap (take e) (backward_append (take k rs) (drop k rs))
       ∙ take_at (backward m (drop k rs)) (backward m (take k rs)) e (omega (arith, backward_length (drop k rs), length-drop k rs))
 
-  pub latest_by_backward : (rs : List Range) (e : ℕ) → Until m rs → Ordered rs → length rs ≤ segment_limit → e ≤ length rs → HasLine (take e (backward m rs)) → (e < length rs → HasLine (take (suc e) (backward m rs)) → ⊥)
+  pub latest_by_backward : (rs : List Range) (e : ℕ) → Until m rs → Ordered rs → e ≤ length rs → HasLine (take e (backward m rs)) → (e < length rs → HasLine (take (suc e) (backward m rs)) → ⊥)
       → latest_run rs ≡ drop (length rs - e) rs
   unfolding latest_run
-  latest_by_backward rs e u o few h line stops =
-      latest_drop decides-segment rs (length rs - e) o (omega arith) (record { is_good = line_of e h line; within = omega (arith, length-drop (length rs - e) rs) })
-      (λ j is g. stops (omega arith) (line_back j is (omega arith) g.is_good))
+  latest_by_backward rs e u o h line stops = latest_drop decides rs (length rs - e) o (omega arith) (line_of e h line) (λ j is g. stops (omega arith) (line_back j is (omega arith) g))
     where
       until : (k : ℕ) → Until m (drop k rs)
       until k = All_append_right (take k rs) (drop k rs) (subst (Until m) (sym (take-append-drop k rs)) u)

@@ -1,9 +1,8 @@
 -- The latest run of ordered ranges.
 --
 --     rest_of, latest-suffix  it is the end of the ranges; so many stand before it
---     latest_has_line        some line fits it, it has at most 1,024 ranges, and it is not empty where there are ranges
---     latest_longest         no longer end of at most 1,024 ranges has a line
---     latest_of-last         it is the latest run of the last 1,024 ranges
+--     latest_has_line        some line fits it, and it is not empty where there are ranges
+--     latest_longest         no longer end has a line
 --     latest_two             it has two ranges or more where there are so many
 --     latest-short           fewer than two ranges are their own latest run
 --     latest-mirrored        the latest run of the mirror image is the image of the latest run
@@ -13,28 +12,26 @@
 --     from_end-count         they are as many as the segments
 --
 -- Assumes nothing.
-use Rattle.std.specs.Prelude.{◌≡◌, refl, Bool, true, false, ℕ, zero, suc, ◌+◌, ◌-◌, ◌≤◌, ◌<◌, take, drop}
+use Rattle.std.specs.Prelude.{◌≡◌, refl, Bool, true, false, ℕ, zero, suc, ◌-◌, ◌≤◌, ◌<◌, take, drop}
 use Rattle.std.proofs.Common.{sym, ap, ◌∙◌, le_refl, arith, length-append, length-drop, take-append-drop, take_at, length-take-le}
 use Rattle.std.proofs.Math.Path.{subst}
 use mathlib.Core.List.{List, [], ◌∷◌, ◌++◌, reverse, flatten, reverse-cons}
 use Rattle.std.proofs.Math.ListN.{length}
-use Rattle.definitions.specs.Spans.{segment_limit}
 use Rattle.definitions.specs.Ranges.{Range}
 use Rattle.definitions.specs.Lines.{has_line}
 use Rattle.definitions.specs.Fit.{HasLine, Ordered}
 use Rattle.definitions.specs.Splits.{GoodRun, GoodRuns, Split}
-use Rattle.definitions.specs.Segments.{segments, one_segment, OneSegment}
+use Rattle.definitions.specs.Segments.{segments}
 use Rattle.definitions.specs.Latest.{latest_by, latest_run}
 use Rattle.splits.specs.OrderedRanges.{ordered-left, ordered-right}
 use Rattle.splits.specs.Cutting.{cut_nil}
 use Rattle.splits.specs.Runs.{flatten_snoc, good_runs_append}
 use Rattle.splits.specs.LatestRuns.{cut_back, latest-suffix as suffix, latest_good, latest_longest as longest, latest_all, latest_cut}
-use Rattle.splits.specs.Limited.{limited_latest}
 use Rattle.splits.specs.Segments as Splits
 use Rattle.chains.specs.Results.{two_have_line}
 use Rattle.lines.specs.Mirrored.{mirrored}
-use Rattle.lines.specs.MirroredFit.{one_segment-mirrored}
-use Rattle.lines.specs.Polygon.{decides, decides-segment}
+use Rattle.lines.specs.MirroredFit.{has_line-mirrored}
+use Rattle.lines.specs.Polygon.{decides}
 
 -- how many ranges stand before the latest run
 abbrev pub rest_of : List Range → ℕ
@@ -43,26 +40,26 @@ rest_of rs = length rs - length (latest_run rs)
 pub latest-suffix : (rs : List Range) → (rs ≡ take (rest_of rs) rs ++ latest_run rs) × (length (latest_run rs) ≤ length rs)
 unfolding latest_run
 latest-suffix rs =
-    let (front, whole) = suffix one_segment rs in
+    let (front, whole) = suffix has_line rs in
     let n : length rs ≡ length (front ++ latest_run rs) = ap length whole in
     let long = length-append front (latest_run rs) in
     (whole ∙ ap (λ l. l ++ latest_run rs) (sym (ap (take (rest_of rs)) whole ∙ take_at front (latest_run rs) (rest_of rs) (omega arith))), omega arith)
 
 module _ (rs : List Range) (o : Ordered rs) where
-  pub latest_has_line : 0 < length rs → GoodRun OneSegment (latest_run rs)
+  pub latest_has_line : 0 < length rs → GoodRun HasLine (latest_run rs)
   unfolding latest_run
-  latest_has_line = latest_good decides-segment rs o
+  latest_has_line = latest_good decides rs o
 
-  pub latest_longest : (front back : List Range) → rs ≡ front ++ back → HasLine back → length back ≤ segment_limit → length back ≤ length (latest_run rs)
+  pub latest_longest : (front back : List Range) → rs ≡ front ++ back → HasLine back → length back ≤ length (latest_run rs)
   unfolding latest_run
-  latest_longest front back e h few = subst (λ l. length back ≤ length (latest_by one_segment l)) (sym e) (longest decides-segment front back (subst Ordered e o) (record { is_good = h; within = few }))
+  latest_longest front back e h = subst (λ l. length back ≤ length (latest_by has_line l)) (sym e) (longest decides front back (subst Ordered e o) h)
 
   pub latest_two : 2 ≤ length rs → 2 ≤ length (latest_run rs)
   latest_two h =
       let k = length rs - 2 in
       let whole = sym (take-append-drop k rs) in
       let long = length-drop k rs in
-      let most = latest_longest (take k rs) (drop k rs) whole (two_line (drop k rs) (ordered-right (take k rs) (drop k rs) (subst Ordered whole o)) (omega arith)) (omega arith) in
+      let most = latest_longest (take k rs) (drop k rs) whole (two_line (drop k rs) (ordered-right (take k rs) (drop k rs) (subst Ordered whole o)) (omega arith)) in
       omega arith
     where
       two_line : (xs : List Range) → Ordered xs → length xs ≡ 2 → HasLine xs
@@ -74,25 +71,16 @@ module _ (rs : List Range) (o : Ordered rs) where
 pub latest-short : (rs : List Range) → Ordered rs → length rs < 2 → latest_run rs ≡ rs
 unfolding latest_run latest_by
 latest-short [] o h = refl
-latest-short (r ∷ []) o h = latest_all decides-segment (r ∷ []) o (decides-segment.one r o)
+latest-short (r ∷ []) o h = latest_all decides (r ∷ []) o (decides.one r o)
 latest-short (r ∷ s ∷ rs) o h = absurd (omega arith)
-
--- the ranges before the last 1,024 do not matter
-pub latest_of-last : (rs : List Range) (k : ℕ) → (0 < k → k + segment_limit ≤ length rs) → latest_run rs ≡ latest_run (drop k rs)
-unfolding latest_run
-latest_of-last rs zero h = refl
-latest_of-last rs (suc k) h =
-    let long = h (omega arith) in
-    ap (latest_by one_segment) (sym (take-append-drop (suc k) rs))
-    ∙ limited_latest segment_limit has_line (take (suc k) rs) (drop (suc k) rs) (omega (arith, long, length-drop (suc k) rs))
 
 pub latest-mirrored : (rs : List Range) → latest_run (mirrored rs) ≡ mirrored (latest_run rs)
 unfolding latest_run latest_by
 latest-mirrored [] = refl
-latest-mirrored (r ∷ rs) = ap (λ (b : Bool). elim b [ true ↦ mirrored (r ∷ rs) | false ↦ latest_by one_segment (mirrored rs) ]) (one_segment-mirrored (r ∷ rs)) ∙ by (one_segment (r ∷ rs)) (latest-mirrored rs)
+latest-mirrored (r ∷ rs) = ap (λ (b : Bool). elim b [ true ↦ mirrored (r ∷ rs) | false ↦ latest_by has_line (mirrored rs) ]) (has_line-mirrored (r ∷ rs)) ∙ by (has_line (r ∷ rs)) (latest-mirrored rs)
   where
-    by : (b : Bool) → latest_by one_segment (mirrored rs) ≡ mirrored (latest_by one_segment rs)
-        → elim b [ true ↦ mirrored (r ∷ rs) | false ↦ latest_by one_segment (mirrored rs) ] ≡ mirrored (elim b [ true ↦ r ∷ rs | false ↦ latest_by one_segment rs ])
+    by : (b : Bool) → latest_by has_line (mirrored rs) ≡ mirrored (latest_by has_line rs)
+        → elim b [ true ↦ mirrored (r ∷ rs) | false ↦ latest_by has_line (mirrored rs) ] ≡ mirrored (elim b [ true ↦ r ∷ rs | false ↦ latest_by has_line rs ])
     by true e = refl
     by false e = e
 
@@ -102,7 +90,7 @@ pub data FromEnd : List Range → List (List Range) → Type 0 where
   none_left : FromEnd [] []
   latest_off : {rs : List Range} {runs : List (List Range)} → 0 < length rs → FromEnd (take (rest_of rs) rs) runs → FromEnd rs (latest_run rs ∷ runs)
 
-good_length : (run : List Range) → GoodRun OneSegment run → 0 < length run
+good_length : (run : List Range) → GoodRun HasLine run → 0 < length run
 good_length [] g = absurd g
 good_length (r ∷ run) g = omega arith
 
@@ -133,7 +121,7 @@ from_end-only none_left (latest_off some rest) = absurd (omega arith)
 from_end-only (latest_off some rest) none_left = absurd (omega arith)
 from_end-only {rs} (latest_off some rest) (latest_off some' rest') = ap (λ runs. latest_run rs ∷ runs) (from_end-only rest rest')
 
-pub from_end-split : {rs : List Range} {runs : List (List Range)} → Ordered rs → FromEnd rs runs → Split OneSegment rs (reverse runs)
+pub from_end-split : {rs : List Range} {runs : List (List Range)} → Ordered rs → FromEnd rs runs → Split HasLine rs (reverse runs)
 unfolding flatten
 from_end-split o none_left = record { whole = refl; each = tt }
 from_end-split {rs} o (latest_off {runs = runs} some rest) =
@@ -141,20 +129,20 @@ from_end-split {rs} o (latest_off {runs = runs} some rest) =
     let turned = reverse-cons (latest_run rs) runs in
     record {
       whole = ap flatten turned ∙ flatten_snoc (reverse runs) (latest_run rs) ∙ ap (λ l. l ++ latest_run rs) s.whole ∙ sym (latest-suffix rs).0;
-      each = subst (GoodRuns OneSegment) (sym turned) (good_runs_append OneSegment (reverse runs) (latest_run rs ∷ []) s.each (latest_has_line rs o some, tt));
+      each = subst (GoodRuns HasLine) (sym turned) (good_runs_append HasLine (reverse runs) (latest_run rs ∷ []) s.each (latest_has_line rs o some, tt));
     }
 
 -- the runs from the last on, each from its end, are those of cutting from the end
-back_count : {rs : List Range} {runs : List (List Range)} → Ordered rs → FromEnd rs runs → length runs ≡ length (cut_back one_segment rs)
+back_count : {rs : List Range} {runs : List (List Range)} → Ordered rs → FromEnd rs runs → length runs ≡ length (cut_back has_line rs)
 unfolding cut_back latest_run
 back_count o none_left = sym (ap length (cut_nil _))
 back_count {rs} o (latest_off some rest) =
-    let c = latest_cut decides-segment rs o some in
+    let c = latest_cut decides rs o some in
     let (end, few) = latest-suffix rs in
     let n : length rs ≡ length (c.front ++ latest_run rs) = ap length c.whole in
     let long = length-append c.front (latest_run rs) in
     let front_is = ap (take (rest_of rs)) c.whole ∙ take_at c.front (latest_run rs) (rest_of rs) (omega arith) in
-    ap suc (back_count (rest-ordered rs o) rest ∙ ap (λ l. length (cut_back one_segment l)) front_is) ∙ sym (ap length c.cuts)
+    ap suc (back_count (rest-ordered rs o) rest ∙ ap (λ l. length (cut_back has_line l)) front_is) ∙ sym (ap length c.cuts)
 
 pub from_end-count : {rs : List Range} {runs : List (List Range)} → Ordered rs → FromEnd rs runs → length runs ≡ length (segments rs)
 unfolding cut_back

@@ -4,28 +4,24 @@
 --     ordered-mirrored                 the image of ranges in order is in order
 --     candidates-mirrored              the image of a candidate is a candidate of the image
 --     has_line-mirrored                 a line fits the image exactly if one fits the ranges
---     one_segment-mirrored              the image can be one segment exactly if the ranges can
 --     segments-mirrored                the segments of the image are the images of the segments
 --     proper-mirrored, reduced-mirrored   lowest terms
 --     fitting-mirrored                 the fitting lines of the image are the images of the fitting lines, the other way round
 --
 -- Assumes nothing.
-use Rattle.std.specs.Prelude.{◌≡◌, ◌&&◌, List, [], ◌∷◌, map, reverse, ℕ, T, leb, ℤ, pos, neg_ℤ}
-use Rattle.std.proofs.Common.{subst, ◌∙◌, ap, ap₂, inl, inr}
-use Rattle.std.proofs.lemmas.List.{length-map}
+use Rattle.std.specs.Prelude.{◌≡◌, List, [], ◌∷◌, map, reverse, ℕ, T, ℤ, pos, neg_ℤ}
+use Rattle.std.proofs.Common.{subst, ◌∙◌, ap, inl, inr}
 use Rattle.std.proofs.Math.IntN.{neg_ℤ-neg_ℤ}
 use Rattle.integers.specs.OrderLaws.{neg-≤}
 use Rattle.integers.specs.Booleans.{T_ext}
 use Rattle.integers.specs.Lists.{In, all_means, all_passes, any_means, any_passes, All-map, All_imp, in_map, in-map-inv, in_reverse, in_reverse_inv, in_append_left, in_append_right, in-append-inv, not-in-nil}
 use Rattle.integers.specs.Divides.{∣ℤ-neg, ◌∣ℤ◌}
 use Rattle.integers.specs.Sorting.{rising_imp, rising_map, rising_reverse, rising_unique}
-use Rattle.definitions.specs.Spans.{segment_limit}
 use Rattle.definitions.specs.Ranges.{Range}
 use Rattle.definitions.specs.Lines.{Line, fits_range, fits, through, through_ends, candidates_from, candidates, has_line}
 use Rattle.definitions.specs.Corners.{reduced, before, fitting}
 use Rattle.definitions.specs.Fit.{InFit, HasLine, Ordered}
-use Rattle.definitions.specs.Splits.{limited}
-use Rattle.definitions.specs.Segments.{segments, one_segment}
+use Rattle.definitions.specs.Segments.{segments}
 use Rattle.definitions.specs.Mirrors.{mirrored_line, mirrored_range}
 use Rattle.splits.specs.Cutting.{cut_map}
 use Rattle.chains.specs.Mirror.{neg_l_neg_l, through-neg, neg_same, neg_slope<, neg-product, neg_product<}
@@ -103,13 +99,9 @@ has-mirrored (r ∷ s ∷ rs) t =
 pub has_line-mirrored : (rs : List Range) → has_line (mirrored rs) ≡ has_line rs
 has_line-mirrored rs = T_ext (λ t. subst (λ xs. T (has_line xs)) (mirrored-mirrored rs) (has-mirrored (mirrored rs) t)) (has-mirrored rs)
 
-pub one_segment-mirrored : (rs : List Range) → one_segment (mirrored rs) ≡ one_segment rs
-unfolding limited
-one_segment-mirrored rs = ap₂ (λ n b. leb n segment_limit && b) (length-map rs mirrored_range) (has_line-mirrored rs)
-
 pub segments-mirrored : (rs : List Range) → segments (mirrored rs) ≡ map mirrored (segments rs)
 unfolding segments
-segments-mirrored rs = cut_map mirrored_range one_segment one_segment one_segment-mirrored rs
+segments-mirrored rs = cut_map mirrored_range has_line has_line has_line-mirrored rs
 
 -- ---- lowest terms
 divides-back : (k : ℕ) (z : ℤ) → k ∣ℤ neg_ℤ z → k ∣ℤ z

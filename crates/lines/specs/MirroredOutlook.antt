@@ -17,12 +17,12 @@ use Rattle.integers.specs.Images.{Backward, backward, last_map, any_images, all_
 use Rattle.definitions.specs.Spans.{most_time, most_direction}
 use Rattle.definitions.specs.Services.{Service}
 use Rattle.definitions.specs.Ranges.{Range}
-use Rattle.definitions.specs.Lines.{Line}
+use Rattle.definitions.specs.Lines.{Line, has_line}
 use Rattle.definitions.specs.Corners.{fitting}
 use Rattle.definitions.specs.Fit.{Ordered}
 use Rattle.definitions.specs.Outlook.{has_reached, some_time, all_time, Outlook, open_strip, lines, outlook_of, end_time, outlook}
 use Rattle.definitions.specs.Mirrors.{mirrored_line, mirrored_range, mirrored_service, mirrored_outlook, mirrored_segment}
-use Rattle.definitions.specs.Segments.{segments, one_segment}
+use Rattle.definitions.specs.Segments.{segments}
 use Rattle.definitions.specs.Results.{segment_of, segments_of}
 use Rattle.splits.specs.Cutting.{cut-whole}
 use Rattle.splits.specs.OrderedRanges.{ordered-left, ordered-right}
@@ -94,4 +94,4 @@ pub segments_of-mirrored : (v : Service) → v.direction ≤ most_direction → 
 unfolding segments_of segments
 segments_of-mirrored v good rs o =
     ap (map (segment_of (mirrored_service v))) (segments-mirrored rs)
-    ∙ each_mirrored v good (runs-ordered (segments rs) (subst Ordered (sym (cut-whole one_segment rs)) o))
+    ∙ each_mirrored v good (runs-ordered (segments rs) (subst Ordered (sym (cut-whole has_line rs)) o))

@@ -3,7 +3,6 @@
 --     corners_of                 the polygon's list has all that `CornerList` asks of a list of corners
 --     extremes_of                its two lines have all that `OutlookTimes` asks of the slow and the fast line
 --     decides                    among ordered ranges, `has_line` decides whether some line fits, which consecutive parts inherit
---     decides-segment            likewise `one_segment` decides whether they can be one segment
 --     closes                     a range that cannot join is kept out by two ranges of the run, one earlier than the other
 --
 -- Assumes nothing.
@@ -14,12 +13,11 @@ use Rattle.definitions.specs.Ranges.{Range}
 use Rattle.definitions.specs.Lines.{Line, candidates, has_line}
 use Rattle.definitions.specs.Outlook.{end_time}
 use Rattle.definitions.specs.Fit.{InFit, HasLine, Ordered, SameLine}
-use Rattle.definitions.specs.Segments.{one_segment, OneSegment}
 use Rattle.chains.specs.Candidates.{candidate_ends}
 use Rattle.chains.specs.Results.{two_have_line, slow, fast, corner_list, slow_fits, fast_fits, slow_lowest, fast_highest, corners_fit, corners_candidates, corners_in_order, corners_at_most, mean_of_corners, listed_corners, corners_listed, touching_listed, joins_or_closes}
 use Rattle.chains.specs.Results as Chains
 use Rattle.splits.specs.Greedy.{Decides}
-use Rattle.splits.specs.Segments.{TwoWithout, one_decides}
+use Rattle.splits.specs.Segments.{TwoWithout}
 use Rattle.splits.specs.OrderedRanges.{ordered-part, ordered-left}
 use Rattle.lines.specs.LineOrder.{same-sym}
 use Rattle.lines.specs.HasLine.{has_line→Has_line, HasLine→hasLine, HasLine_part}
@@ -71,9 +69,6 @@ decides =
       passes = HasLine→hasLine candidate-fits;
       means = has_line→Has_line;
     }
-
-pub decides-segment : Decides Ordered OneSegment one_segment
-decides-segment = one_decides decides
 
 pub closes : (run : List Range) (w : Range) → Ordered (run ++ (w ∷ [])) → HasLine run → (HasLine (run ++ (w ∷ [])) → ⊥) → TwoWithout run w
 closes [] w o h out = absurd (out (decides.one w o))

@@ -22,32 +22,30 @@
 --     segments-mirrored          the segments of the image are the images of the segments (MirroredFit)
 --     corners_mirrored           the corners are the same ring, negated, begun at the corner of greatest slope (MirroredCorners)
 -- The segments: demand 3
---     one_segment_is                `one_segment` passes exactly if some line fits the ranges and they are at most 1,024
---     segments_split             they are a split, of runs of at most 1,024 ranges
+--     segments_split             they are a split
 --     segments_times, segments_ranges   the times given are those of the first and the last range of each, and its ranges are those from the one time to the other
 --     segments_ahead             no split's j-th run ends after the j-th segment, by last times; segments_ahead_count: by the number of ranges, for every j
 --     segments_fewest            every split has at least as many runs
---     segments_close             where a further range closes a segment of fewer than 1,024 ranges, two ranges of it, at different times, and the further one have no line
---     segments_long              of more than 1,024 ranges with a line, the first 1,024 are a segment, and the others are cut anew
+--     segments_close             where a further range closes a segment, two ranges of it, at different times, and the further one have no line
 --     segments_room              at most 2,048
 --     segments_back              cutting from the end gives as many
---     running_has_line           the segment then running after k ranges is not empty, has a line and at most 1,024 ranges
+--     running_has_line           the segment then running after k ranges is not empty and has a line
 --
 -- The latest run: `LatestTrend`.
 -- Assumes nothing.
-use Rattle.std.specs.Prelude.{◌≡◌, ◌↔◌, ℕ, ◌*◌, ◌<◌, ◌≤◌, T, ℤ, pos, ◌*ℤ◌, length, get_or, take, drop, ◌≤ℤ◌, ◌<ℤ◌}
+use Rattle.std.specs.Prelude.{◌≡◌, ◌↔◌, ℕ, ◌*◌, ◌<◌, ◌≤◌, T, ℤ, pos, ◌*ℤ◌, length, get_or, ◌≤ℤ◌, ◌<ℤ◌}
 use mathlib.Core.List.{List, [], ◌∷◌, ◌++◌, reverse, Nodup}
 use Rattle.std.proofs.Common.{arith}
 use Rattle.integers.specs.Lists.{All, All_of, All_imp, In, filter}
 use Rattle.integers.specs.LowestTerms.{InLowestTerms}
 use Rattle.definitions.specs.Services.{Service}
-use Rattle.definitions.specs.Spans.{most_ranges, segment_limit, segment_room}
+use Rattle.definitions.specs.Spans.{most_ranges, segment_room}
 use Rattle.definitions.specs.Ranges.{Range}
 use Rattle.definitions.specs.Lines.{Line, has_line}
 use Rattle.definitions.specs.Corners.{side, corners}
 use Rattle.definitions.specs.Fit.{InFit, HasLine, Ordered, SameLine, SlopeBelow, WeightedMean, Corner, InCornerOrder, single, around}
 use Rattle.definitions.specs.Splits.{cut, GoodRun, Split, end_of}
-use Rattle.definitions.specs.Segments.{segments, one_segment, OneSegment, running_after}
+use Rattle.definitions.specs.Segments.{segments, running_after}
 use Rattle.definitions.specs.Results.{segment_of, segments_of}
 use Rattle.splits.specs.OrderedRanges.{first_time_of, last_time_of}
 use Rattle.splits.specs.RunTimes.{in_span}
@@ -61,7 +59,7 @@ use Rattle.lines.specs.OneRange as OneRange
 use Rattle.lines.specs.Diagonal.{OnDiagonal, ByDiagonal}
 use Rattle.lines.specs.Diagonal as Diagonal
 use Rattle.lines.specs.CornerList as Listing
-use Rattle.lines.specs.Polygon.{corners_of, decides, decides-segment, closes}
+use Rattle.lines.specs.Polygon.{corners_of, decides, closes}
 
 -- ---- the fit
 
@@ -138,10 +136,7 @@ module _ (r s : Range) (ws : List Range) (o : Ordered (r ∷ s ∷ ws)) (h : Has
 -- ---- the segments
 
 module _ (rs : List Range) (o : Ordered rs) where
-  pub one_segment_is : T (one_segment rs) ↔ OneSegment rs
-  one_segment_is = (decides-segment.means rs o, decides-segment.passes rs o)
-
-  pub segments_split : Split OneSegment rs (segments rs)
+  pub segments_split : Split HasLine rs (segments rs)
   segments_split = Splits.segments_split decides rs o
 
   pub segments_times : (v : Service) (j : ℕ) → j < length (segments rs) → TimesOf (get_or (segments rs) j []) (get_or (segments_of v rs) j (segment_of v []))
@@ -150,26 +145,23 @@ module _ (rs : List Range) (o : Ordered rs) where
   pub segments_ranges : (j : ℕ) → j < length (segments rs) → filter (in_span (first_time_of (get_or (segments rs) j [])) (last_time_of (get_or (segments rs) j []))) rs ≡ get_or (segments rs) j []
   segments_ranges = Splits.segments_ranges decides rs o
 
-  pub segments_ahead : (runs : List (List Range)) → Split OneSegment rs runs → (j : ℕ) → j < length runs → j < length (segments rs) → last_time_of (get_or runs j []) ≤ last_time_of (get_or (segments rs) j [])
+  pub segments_ahead : (runs : List (List Range)) → Split HasLine rs runs → (j : ℕ) → j < length runs → j < length (segments rs) → last_time_of (get_or runs j []) ≤ last_time_of (get_or (segments rs) j [])
   segments_ahead runs = Splits.segments_ahead_times decides rs runs o
 
-  pub segments_ahead_count : (runs : List (List Range)) → Split OneSegment rs runs → (j : ℕ) → end_of j runs ≤ end_of j (segments rs)
+  pub segments_ahead_count : (runs : List (List Range)) → Split HasLine rs runs → (j : ℕ) → end_of j runs ≤ end_of j (segments rs)
   segments_ahead_count runs = Splits.segments_ahead decides rs runs o
 
-  pub segments_fewest : (runs : List (List Range)) → Split OneSegment rs runs → length (segments rs) ≤ length runs
+  pub segments_fewest : (runs : List (List Range)) → Split HasLine rs runs → length (segments rs) ≤ length runs
   segments_fewest runs = Splits.segments_fewest decides rs runs o
 
-  pub segments_close : (before : List (List Range)) (run : List Range) (w : Range) (more : List Range) (after : List (List Range)) → segments rs ≡ before ++ (run ∷ (w ∷ more) ∷ after) → length run < segment_limit → TwoWithout run w
+  pub segments_close : (before : List (List Range)) (run : List Range) (w : Range) (more : List Range) (after : List (List Range)) → segments rs ≡ before ++ (run ∷ (w ∷ more) ∷ after) → TwoWithout run w
   segments_close before run w more after = Splits.segments_close decides closes rs before run w more after o
-
-  pub segments_long : HasLine rs → segment_limit < length rs → segments rs ≡ take segment_limit rs ∷ segments (drop segment_limit rs)
-  segments_long = Splits.segments_long decides rs o
 
   pub segments_room : length rs ≤ most_ranges → length (segments rs) ≤ segment_room
   segments_room = Splits.segments_room decides two-ranges rs o
 
-  pub segments_back : length (cut (λ run. one_segment (reverse run)) (reverse rs)) ≡ length (segments rs)
+  pub segments_back : length (cut (λ run. has_line (reverse run)) (reverse rs)) ≡ length (segments rs)
   segments_back = Splits.segments_back decides rs o
 
-  pub running_has_line : (k : ℕ) → 0 < k → k ≤ length rs → GoodRun OneSegment (running_after k rs)
+  pub running_has_line : (k : ℕ) → 0 < k → k ≤ length rs → GoodRun HasLine (running_after k rs)
   running_has_line k = Splits.running_good decides k rs o

@@ -19,9 +19,9 @@ use Rattle.integers.specs.Booleans.{T→true, ¬T→false}
 use Rattle.definitions.specs.Spans.{most_ranges}
 use Rattle.definitions.specs.Services.{Service}
 use Rattle.definitions.specs.Ranges.{Range, Lists, ranges_of}
-use Rattle.definitions.specs.Fit.{Ordered}
+use Rattle.definitions.specs.Fit.{HasLine, Ordered}
 use Rattle.definitions.specs.Splits.{last_run}
-use Rattle.definitions.specs.Segments.{segments, OneSegment, running_after}
+use Rattle.definitions.specs.Segments.{segments, running_after}
 use Rattle.definitions.specs.Outlook.{outlook}
 use Rattle.definitions.specs.Results.{segments_of}
 use Rattle.definitions.specs.Answers.{Answer, refused, accepted, ◌>>=◌, firstRow}
@@ -29,9 +29,8 @@ use Rattle.definitions.specs.Previews.{longer, joins, effect_of, preview_rows, p
 use Rattle.trial_laws.specs.RangeLists.{SameLength, range_at, ranges_length}
 use Rattle.trial_laws.specs.Accepted.{GoodService, AcceptedLists}
 use Rattle.trial_laws.specs.LongerLists.{longer_length, longer_ranges, longer_last, shorter_accepted, effect_on, preview_by_rows}
-use Rattle.splits.specs.Runs.{good_run}
 use Rattle.splits.specs.Effects.{effect_after, effect_first, effect_joins, effect_begins}
-use Rattle.lines.specs.Polygon.{decides-segment}
+use Rattle.lines.specs.Polygon.{decides}
 use Rattle.drift_laws.specs.ChainParts.{Chain}
 use Rattle.drift_laws.specs.RunsByPlace.{run, run_more, run_ordered}
 use Rattle.values.specs.declared.Outlook.{Outlook}
@@ -39,11 +38,10 @@ use Rattle.values.specs.declared.Outlook.TheVariants.{Open}
 use Rattle.values.specs.Meanings.{line_of, outlook_of}
 use Rattle.values.specs.Reach.{look_ahead}
 use Rattle.fit.specs.declared.run.Reach.{Reach}
+use Rattle.fit.specs.declared.last_run.Found.{Found}
 use Rattle.fit.specs.RunsFrom.{RunFrom}
 use Rattle.fit.specs.RunOutlooks.{run_outlook}
-use Rattle.segment_runs.specs.declared.last_run.Found.{Found}
-use Rattle.segment_runs.specs.LimitedRuns.{limited_good, limited_stops}
-use Rattle.segment_runs.specs.LastRuns.{LastRun}
+use Rattle.fit.specs.LastRuns.{LastRun}
 use Rattle.preview.specs.declared.PreviewAnswer.{PreviewAnswer}
 use Rattle.preview.specs.declared.PreviewAnswer.TheVariants.{Joins, Begins, Refused}
 use Rattle.preview.specs.PreviewPromise.{preview_meaning, PreviewPromise}
@@ -82,11 +80,8 @@ module _ {v : Service} {ls : Lists} {r : Range} (u : Unrefused v ls r) where
     abbrev i : ℕ
     i = found.start
 
-    f : RunFrom more i w.most up down reach
+    f : RunFrom more i (n + 1) up down reach
     f = w.found
-
-    upto : n + 1 ≤ length more.times
-    upto = omega (arith, longer_length ls r)
 
     last_is : last ≡ run more i n
     unfolding running_after
@@ -112,18 +107,18 @@ module _ {v : Service} {ls : Lists} {r : Range} (u : Unrefused v ls r) where
     unfolding preview_meaning outlook_of
     given_closed h =
         let end : reach.end ≡ n = omega (arith, h, w.goes) in
-        record { answer_is = ap accepted (sym (effect_on_lem v ls r same ∙ effect_begins v (ranges_of ls) r some_ranges (¬T→false (λ t. not-one end (decides-segment.means (last ++ (r ∷ [])) order t))))) }
+        record { answer_is = ap accepted (sym (effect_on_lem v ls r same ∙ effect_begins v (ranges_of ls) r some_ranges (¬T→false (λ t. no_line end (decides.means (last ++ (r ∷ [])) order t))))) }
       where
-        not-one : reach.end ≡ n → OneSegment (last ++ (r ∷ [])) → ⊥
-        not-one end one =
-            limited_stops a upto w.limit f (omega arith) (subst OneSegment (with_range ∙ run_more more a i n (le_of_lt z.begins) (omega (arith, longer_length ls r)) ∙ ap (λ e. run more i e ++ (range_at more e ∷ [])) (sym end)) one)
+        no_line : reach.end ≡ n → HasLine (last ++ (r ∷ [])) → ⊥
+        no_line end line =
+            f.closed (omega arith) (subst HasLine (with_range ∙ run_more more a i n (le_of_lt z.begins) (omega (arith, longer_length ls r)) ∙ ap (λ e. run more i e ++ (range_at more e ∷ [])) (sym end)) line)
 
     module _ (h : n < reach.end) where
       end_is : reach.end ≡ n + 1
-      end_is = omega (arith, h, f.within, w.limit.by_count)
+      end_is = omega (arith, h, f.within)
 
-      one : OneSegment (last ++ (r ∷ []))
-      one = subst OneSegment (ap (run more i) end_is ∙ sym with_range) (good_run OneSegment (run more i reach.end) (limited_good a upto w.limit f))
+      line : HasLine (last ++ (r ∷ []))
+      line = subst HasLine (ap (run more i) end_is ∙ sym with_range) f.line
 
       time_is : (range_at more (reach.end - 1)).time ≡ r.time
       time_is =
@@ -133,8 +128,8 @@ module _ {v : Service} {ls : Lists} {r : Range} (u : Unrefused v ls r) where
       pub given_joined : {o : Outlook} → outlook_of o ≡ look_ahead (line_of reach.polygon.slow) (line_of reach.polygon.fast) v r.time → EffectGiven v ls r (Joins o)
       unfolding preview_meaning
       given_joined {o} e =
-          let joined = effect_on_lem v ls r same ∙ effect_joins v (ranges_of ls) r some_ranges (T→true (decides-segment.passes (last ++ (r ∷ [])) order one)) in
-          let seen = run_outlook a (omega (arith, upto, w.limit.by_count)) f (omega (arith, z.begins, end_is)) v u.good in
+          let joined = effect_on_lem v ls r same ∙ effect_joins v (ranges_of ls) r some_ranges (T→true (decides.passes (last ++ (r ∷ [])) order line)) in
+          let seen = run_outlook a (omega (arith, longer_length ls r)) f (omega (arith, z.begins, end_is)) v u.good in
           record {
             answer_is =
                 ap (λ o. accepted (joins o))

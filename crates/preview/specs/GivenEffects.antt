@@ -15,9 +15,10 @@ use mathlib.Core.List.{List, [], ◌∷◌, ◌++◌, flatten, drop_last, append
 use Rattle.integers.specs.Booleans.{true→T, false→¬T}
 use Rattle.definitions.specs.Services.{Service}
 use Rattle.definitions.specs.Ranges.{Range, Lists, ranges_of}
+use Rattle.definitions.specs.Lines.{has_line}
 use Rattle.definitions.specs.Fit.{HasLine, Ordered}
 use Rattle.definitions.specs.Splits.{last_run}
-use Rattle.definitions.specs.Segments.{segments, one_segment, OneSegment}
+use Rattle.definitions.specs.Segments.{segments}
 use Rattle.definitions.specs.Outlook.{Outlook, open_strip, outlook, end_time}
 use Rattle.definitions.specs.Results.{Numbers, Segment, numbers_of, last_eight, outlook_numbers}
 use Rattle.definitions.specs.Answers.{accepted, ◌>>=◌, firstRow}
@@ -26,7 +27,7 @@ use Rattle.splits.specs.Cutting.{cut_nil, cut_not_empty, cut_last, cut_ends}
 use Rattle.splits.specs.OrderedRanges.{last_time_of, ordered-right, last-append}
 use Rattle.splits.specs.Effects.{grown, effect_after, Next, next_joins, next_begins, next}
 use Rattle.lines.specs.RunOutlook.{LinesOf, run-lines}
-use Rattle.lines.specs.Theorems.{one_segment_is}
+use Rattle.lines.specs.Theorems.{has-line}
 use Rattle.trial_laws.specs.Rows.{NoneHolds, first_row-accepted}
 use Rattle.trial_laws.specs.CallLaws.{call-accepted}
 use Rattle.trial_laws.specs.RangeLists.{SameLength, ranges_length}
@@ -43,11 +44,11 @@ grown-ends : (rs : List Range) (r : Range) → 0 < length rs → flatten (drop_l
 unfolding segments
 grown-ends rs r h =
     sym (append_assoc (flatten (drop_last (segments rs))) (last_run (segments rs)) (r ∷ []))
-    ∙ ap (λ l. l ++ (r ∷ [])) (cut_ends one_segment rs h)
+    ∙ ap (λ l. l ++ (r ∷ [])) (cut_ends has_line rs h)
 
 grown-first : (r : Range) → grown [] r ≡ r ∷ []
 unfolding segments last_run
-grown-first r = ap (λ runs. last_run runs ++ (r ∷ [])) (cut_nil one_segment)
+grown-first r = ap (λ runs. last_run runs ++ (r ∷ [])) (cut_nil has_line)
 
 grown-ordered : (rs : List Range) (r : Range) → Ordered (rs ++ (r ∷ [])) → Ordered (grown rs r)
 grown-ordered [] r o = subst Ordered (sym (grown-first r)) o
@@ -57,7 +58,7 @@ grown-two : (rs : List Range) (r : Range) → 0 < length rs → 2 ≤ length (gr
 unfolding segments
 grown-two rs r h =
     let run = last_run (segments rs) in
-    omega (arith, length-append run (r ∷ []), cut_not_empty one_segment rs (drop_last (segments rs)) run [] (cut_last one_segment rs h))
+    omega (arith, length-append run (r ∷ []), cut_not_empty has_line rs (drop_last (segments rs)) run [] (cut_last has_line rs h))
 
 grown-outlook : (v : Service) → GoodService v → (rs : List Range) (r : Range) → 0 < length rs → Ordered (rs ++ (r ∷ [])) → HasLine (grown rs r) → LinesOf v (grown rs r) r.time (outlook v (grown rs r))
 unfolding last_time_of end_time
@@ -86,9 +87,9 @@ joins_not_begins e = absurd (let z : ◌≡◌ {A = ℕ} 0 1 = cc in omega arith
 
 -- what no row's holding gives: two cases, each with what the range does to the number of segments
 pub data Given (v : Service) (ls : Lists) (r : Range) (answer : PreviewAnswer) : Type 0 where
-  given_joins : 0 < length ls.times → LinesOf v (grown (ranges_of ls) r) r.time (outlook v (grown (ranges_of ls) r)) → OneSegment (grown (ranges_of ls) r)
+  given_joins : 0 < length ls.times → LinesOf v (grown (ranges_of ls) r) r.time (outlook v (grown (ranges_of ls) r)) → HasLine (grown (ranges_of ls) r)
       → preview_meaning answer ≡ accepted (joins (outlook v (grown (ranges_of ls) r))) → length (segments (ranges_of ls ++ (r ∷ []))) ≡ length (segments (ranges_of ls)) → Given v ls r answer
-  given_begins : (length ls.times ≡ 0) ⊎ ¬ OneSegment (grown (ranges_of ls) r) → preview_meaning answer ≡ accepted (begins open_strip)
+  given_begins : (length ls.times ≡ 0) ⊎ ¬ HasLine (grown (ranges_of ls) r) → preview_meaning answer ≡ accepted (begins open_strip)
       → length (segments (ranges_of ls ++ (r ∷ []))) ≡ suc (length (segments (ranges_of ls))) → Given v ls r answer
 
 module _ {v : Service} {ls : Lists} {r : Range} {answer : PreviewAnswer} (promise : PreviewPromise v ls r answer) where
@@ -121,18 +122,18 @@ module _ {v : Service} {ls : Lists} {r : Range} {answer : PreviewAnswer} (promis
     rising = subst Ordered ranges_given taken.ranges.ordered
 
     -- among these ranges the test decides
-    one_iff : T (one_segment (grown rs r)) ↔ OneSegment (grown rs r)
-    one_iff = one_segment_is (grown rs r) (grown-ordered rs r rising)
+    line_iff : T (has_line (grown rs r)) ↔ HasLine (grown rs r)
+    line_iff = has-line (grown rs r) (grown-ordered rs r rising)
 
     pub given : Given v ls r answer
     given = by (next v rs r)
       where
         by : Next v rs r → Given v ls r answer
         by (next_joins some test is count) =
-            let one = one_iff.0 (true→T test) in
-            given_joins (omega (arith, ranges_length ls same)) (grown-outlook v good rs r some rising one.is_good) one (effect_given ∙ ap accepted is) count
+            let line = line_iff.0 (true→T test) in
+            given_joins (omega (arith, ranges_length ls same)) (grown-outlook v good rs r some rising line) line (effect_given ∙ ap accepted is) count
         by (next_begins (inl e) is count) = given_begins (inl (omega (arith, ranges_length ls same))) (effect_given ∙ ap accepted is) count
-        by (next_begins (inr test) is count) = given_begins (inr (λ one. false→¬T test (one_iff.1 one))) (effect_given ∙ ap accepted is) count
+        by (next_begins (inr test) is count) = given_begins (inr (λ line. false→¬T test (line_iff.1 line))) (effect_given ∙ ap accepted is) count
 
 -- ---- the outlook's eight numbers
 

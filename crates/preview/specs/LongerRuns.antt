@@ -1,18 +1,16 @@
 -- The last run of some lists, as a run of the lists with one range more.
 --
 --     run-longer             a run of the lists is a run of the longer lists
---     RunWith                the last run, which begins at i, among the ranges and one more, within the limit: it goes up to the end of the lists at least
---     with_full              it has as many ranges as the limit allows: it goes no further
+--     RunWith                the last run, which begins at i, among the ranges and one more: it goes up to the end of the lists at least
 --     with_second            it has one range: the new one joins it
 --     alone, alone-accepted  lists of one range; they are acceptable if it is proper
---     with_gone              it has more, and fewer than the limit allows: where its polygon goes on over these lists
+--     with_gone              it has more: where its polygon goes on over these lists
 --
 -- Assumes nothing.
 use Rattle.std.specs.Prelude.{◌≡◌, refl, [], ◌∷◌, ℕ, zero, suc, ◌+◌, ◌-◌, ◌≤◌, ◌<◌, length, take, drop}
 use Rattle.std.proofs.Common.{sym, ap, ap₂, ◌∙◌, subst, add-zero, arith, length-drop}
 use Rattle.std.proofs.lemmas.List.{take-append-le, drop-append-le}
 use Rattle.integers.specs.Lists.{nil, cons}
-use Rattle.definitions.specs.Spans.{segment_limit}
 use Rattle.definitions.specs.Ranges.{Lists, zip_ranges, ranges_of, Range as RangeTerm}
 use Rattle.definitions.specs.Fit.{HasLine}
 use Rattle.definitions.specs.Previews.{longer}
@@ -21,17 +19,16 @@ use Rattle.trial_laws.specs.Accepted.{ProperRange, AcceptedLists, accepted-lists
 use Rattle.trial_laws.specs.LongerLists.{longer_length, longer_ranges, longer_at, longer_last, shorter_accepted}
 use Rattle.chains.specs.Results.{polygon}
 use Rattle.drift_laws.specs.ChainParts.{Chain}
-use Rattle.drift_laws.specs.RunsByPlace.{run, run_length, run_polygon}
+use Rattle.drift_laws.specs.RunsByPlace.{run, run_polygon}
 use Rattle.fit.specs.declared.ends.Range.{Range}
 use Rattle.fit.specs.declared.polygon.Polygon.{Polygon}
+use Rattle.fit.specs.declared.last_run.Found.{Found}
 use Rattle.fit.specs.declared.run.Reach.{Reach}
 use Rattle.fit.specs.RangesByValue.{range_of}
 use Rattle.fit.specs.Joins.{StartedAt}
 use Rattle.fit.specs.RunsFrom.{Running, running_start, RunFrom, run_over}
 use Rattle.fit.specs.RunsOn.{SameFrom, GoneOn}
-use Rattle.segment_runs.specs.declared.last_run.Found.{Found}
-use Rattle.segment_runs.specs.LimitedRuns.{LimitedEnd}
-use Rattle.segment_runs.specs.LastRuns.{LastRun}
+use Rattle.fit.specs.LastRuns.{LastRun}
 
 pub run-longer : (ls : Lists) (r : RangeTerm) → SameLength ls → (i e : ℕ) → i ≤ e → e ≤ length ls.times → run (longer ls r) i e ≡ run ls i e
 run-longer ls r same i e h within =
@@ -48,9 +45,7 @@ unfolding ranges_of zip_ranges
 alone-accepted r p = accepted-lists (alone r) (record { lows_long = refl; highs_long = refl }) (record { each = cons p nil; ordered = (p.low_high, nil, tt) })
 
 pub record RunWith (ls : Lists) (r : RangeTerm) (i : ℕ) (up down : Chain) (x : Reach) : Type 0 where
-  pub most : ℕ
-  pub limit : LimitedEnd i (length ls.times + 1) most
-  pub found : RunFrom (longer ls r) i most up down x
+  pub found : RunFrom (longer ls r) i (length ls.times + 1) up down x
   pub goes : length ls.times ≤ x.end
 
 module _ (ls : Lists) (r : Range) (a : AcceptedLists (longer ls (range_of r))) where
@@ -82,22 +77,7 @@ module _ (ls : Lists) (r : Range) (a : AcceptedLists (longer ls (range_of r))) w
     running two =
         let p = z.polygon_is two in
         let b = z.begins in
-        record { is = p.is ∙ sym (polygon_longer two); line = subst HasLine (sym (run-longer ls (range_of r) same i n (omega arith) (omega arith))) z.segment.is_good; shape = p.shape; few = p.few }
-
-    -- up to the new range
-    to_new : n < i + segment_limit → LimitedEnd i (n + 1) (n + 1)
-    to_new h = record { by_count = omega arith; by_limit = omega arith; is_least = λ less. absurd (omega arith) }
-
-    pub with_full : i + segment_limit ≤ n → RunWith ls (range_of r) i up down (record { end = n; polygon = last.polygon })
-    with_full full =
-        let few = z.segment.within in
-        let long = run_length ls (shorter_accepted ls (range_of r) a) i n (omega arith) in
-        record {
-          most = n;
-          limit = record { by_count = omega arith; by_limit = omega arith; is_least = λ _. omega arith };
-          found = run_over a i n n (omega arith) (omega (arith, longer_length ls (range_of r))) (running (omega arith)) (omega arith) (omega arith);
-          goes = omega arith;
-        }
+        record { is = p.is ∙ sym (polygon_longer two); line = subst HasLine (sym (run-longer ls (range_of r) same i n (omega arith) (omega arith))) z.line; shape = p.shape; few = p.few }
 
     pub with_second : n < i + 2 → {up' down' : Chain} {first : Range} {x : Polygon} → range_of first ≡ range_at ls i → StartedAt first r up' down' x → RunWith ls (range_of r) i up' down' (record { end = n + 1; polygon = x })
     with_second one {up'} {down'} {first} {x} e s =
@@ -105,16 +85,14 @@ module _ (ls : Lists) (r : Range) (a : AcceptedLists (longer ls (range_of r))) w
         let m : i + 1 ≡ n = omega arith in
         let k : i + 2 ≡ n + 1 = omega arith in
         let began = running_start a i (omega (arith, long)) (e ∙ sym (longer_at ls (range_of r) same i b)) (new_at ∙ ap (range_at more) (sym m)) s in
-        record { most = n + 1; limit = to_new (omega arith); found = run_over a i (n + 1) (n + 1) (omega arith) (omega (arith, long)) (subst (λ e. Running more up' down' i e x) k began) (omega arith) (omega arith); goes = omega arith }
+        record { found = run_over a i (n + 1) (n + 1) (omega arith) (omega (arith, long)) (subst (λ e. Running more up' down' i e x) k began) (omega arith) (omega arith); goes = omega arith }
 
-    pub with_gone : i + 2 ≤ n → n < i + segment_limit → {stored : Lists} → alone (range_of r) ≡ stored → {up' down' : Chain} {x : Reach} → GoneOn stored up down last.polygon 0 1 up' down' x
+    pub with_gone : i + 2 ≤ n → {stored : Lists} → alone (range_of r) ≡ stored → {up' down' : Chain} {x : Reach} → GoneOn stored up down last.polygon 0 1 up' down' x
         → RunWith ls (range_of r) i up' down' (record { end = n + x.end; polygon = x.polygon })
-    with_gone two below {stored} is {up'} {down'} {x} g =
+    with_gone two {stored} is {up'} {down'} {x} g =
         let e : n + (x.end - 0) ≡ n + x.end = omega arith in
         let one : n + (1 - 0) ≡ n + 1 = omega arith in
         record {
-          most = n + 1;
-          limit = to_new below;
           found =
               subst (λ m. RunFrom more i m up' down' (record { end = n + x.end; polygon = x.polygon })) one
               (subst (λ e. RunFrom more i (n + (1 - 0)) up' down' (record { end = e; polygon = x.polygon })) e

@@ -4,9 +4,8 @@
 --
 --     begins_open                      what begins is open
 --     joins_lines                      what joins has the lines and times of the last segment with the range, over all lines of its fit
---     joins_exactly                    it joins exactly if no row holds, there is a range before it, and the last segment with it can be one segment: some line fits it, and it has at most 1,024 ranges
---     begins_exactly                   it begins a segment exactly if no row holds, and there is no range before it or the two cannot be one segment
---     begins_full                      so it always does after a segment of 1,024 ranges
+--     joins_exactly                    it joins exactly if no row holds, there is a range before it, and some line fits the last segment with it
+--     begins_exactly                   it begins a segment exactly if no row holds, and there is no range before it or no such line
 --
 -- Against Segment on the lists with the range added:
 --
@@ -21,17 +20,16 @@
 --     course_count, course_outlooks    the outlooks told last of each segment: as many as Segment gave, and the j-th has the last eight numbers of the j-th row
 --
 -- Assumes nothing.
-use Rattle.std.specs.Prelude.{◌≡◌, ◌↔◌, ◌⊎◌, false, List, [], ◌∷◌, ℕ, ◌+◌, ◌-◌, ◌<◌, ◌≤◌, length}
-use Rattle.std.proofs.Common.{sym, ◌∙◌, inl, inr, arith, length-append}
+use Rattle.std.specs.Prelude.{◌≡◌, ◌↔◌, ◌⊎◌, false, List, [], ℕ, ◌+◌, ◌-◌, ◌<◌, length}
+use Rattle.std.proofs.Common.{sym, ◌∙◌, inl, inr, arith}
 use Rattle.std.proofs.Math.Path.{ap, subst}
 use Rattle.std.proofs.Math.ListN.{get_or, get_or-map}
 use Rattle.std.proofs.lemmas.List.{length-map}
 use Rattle.integers.specs.Lists.{In, in_map, in-map-inv}
 use Rattle.definitions.specs.Services.{Service}
-use Rattle.definitions.specs.Spans.{segment_limit, segment_room}
+use Rattle.definitions.specs.Spans.{segment_room}
 use Rattle.definitions.specs.Ranges.{Range, Lists, ranges_of}
-use Rattle.definitions.specs.Splits.{last_run}
-use Rattle.definitions.specs.Segments.{segments, OneSegment}
+use Rattle.definitions.specs.Fit.{HasLine}
 use Rattle.definitions.specs.Outlook.{Outlook, open_strip, outlook}
 use Rattle.definitions.specs.Results.{segment_of, segments_of}
 use Rattle.definitions.specs.Answers.{refused, accepted}
@@ -71,32 +69,29 @@ module _ {v : Service} {ls : Lists} {r : Range} {answer : PreviewAnswer} (promis
       by (given_joins some lines line is count) = subst (LinesOf v (grown (ranges_of ls) r) r.time) (joins-is (sym is ∙ e)) lines
       by (given_begins out is count) = joins_not_begins (sym e ∙ is)
 
-  pub joins_exactly : Joined answer ↔ (NoneHolds (preview_rows v ls r) × (0 < length ls.times) × OneSegment (grown (ranges_of ls) r))
+  pub joins_exactly : Joined answer ↔ (NoneHolds (preview_rows v ls r) × (0 < length ls.times) × HasLine (grown (ranges_of ls) r))
   joins_exactly = (λ j. let none = none_given promise (joins j.0) j.1 in to j none (given promise none), λ h. from h.1 h.2 (given promise h.0))
     where
-      to : Joined answer → NoneHolds (preview_rows v ls r) → Given v ls r answer → NoneHolds (preview_rows v ls r) × (0 < length ls.times) × OneSegment (grown (ranges_of ls) r)
+      to : Joined answer → NoneHolds (preview_rows v ls r) → Given v ls r answer → NoneHolds (preview_rows v ls r) × (0 < length ls.times) × HasLine (grown (ranges_of ls) r)
       to j none (given_joins some lines line is count) = (none, some, line)
       to j none (given_begins out is count) = joins_not_begins (sym j.1 ∙ is)
 
-      from : 0 < length ls.times → OneSegment (grown (ranges_of ls) r) → Given v ls r answer → Joined answer
+      from : 0 < length ls.times → HasLine (grown (ranges_of ls) r) → Given v ls r answer → Joined answer
       from some line (given_joins h lines t is count) = (outlook v (grown (ranges_of ls) r), is)
       from some line (given_begins (inl e) is count) = absurd (omega arith)
       from some line (given_begins (inr out) is count) = absurd (out line)
 
-  pub begins_exactly : Begun answer ↔ (NoneHolds (preview_rows v ls r) × ((length ls.times ≡ 0) ⊎ ¬ OneSegment (grown (ranges_of ls) r)))
+  pub begins_exactly : Begun answer ↔ (NoneHolds (preview_rows v ls r) × ((length ls.times ≡ 0) ⊎ ¬ HasLine (grown (ranges_of ls) r)))
   begins_exactly = (λ b. let none = none_given promise (begins b.0) b.1 in to b none (given promise none), λ h. from h.1 (given promise h.0))
     where
-      to : Begun answer → NoneHolds (preview_rows v ls r) → Given v ls r answer → NoneHolds (preview_rows v ls r) × ((length ls.times ≡ 0) ⊎ ¬ OneSegment (grown (ranges_of ls) r))
+      to : Begun answer → NoneHolds (preview_rows v ls r) → Given v ls r answer → NoneHolds (preview_rows v ls r) × ((length ls.times ≡ 0) ⊎ ¬ HasLine (grown (ranges_of ls) r))
       to b none (given_joins some lines line is count) = joins_not_begins (sym is ∙ b.1)
       to b none (given_begins out is count) = (none, out)
 
-      from : (length ls.times ≡ 0) ⊎ ¬ OneSegment (grown (ranges_of ls) r) → Given v ls r answer → Begun answer
+      from : (length ls.times ≡ 0) ⊎ ¬ HasLine (grown (ranges_of ls) r) → Given v ls r answer → Begun answer
       from out (given_begins h is count) = (open_strip, is)
       from (inl e) (given_joins some lines line is count) = absurd (omega arith)
       from (inr out) (given_joins some lines line is count) = absurd (out line)
-
-  pub begins_full : NoneHolds (preview_rows v ls r) → segment_limit ≤ length (last_run (segments (ranges_of ls))) → Begun answer
-  begins_full none full = begins_exactly.1 (none, inr (λ one. absurd (omega (arith, one.within, length-append (last_run (segments (ranges_of ls))) (r ∷ []), full))))
 
 -- ---- against Segment
 

@@ -1,21 +1,20 @@
 // The last run of some lists with one range more.
 ghost use Rattle.std.specs.Prelude.{◌<◌, length};
-ghost use Rattle.definitions.specs.Spans.{most_ranges, segment_limit};
+ghost use Rattle.definitions.specs.Spans.{most_ranges};
 ghost use Rattle.definitions.specs.Previews.{longer};
 ghost use Rattle.trial_laws.specs.Accepted.{AcceptedLists};
 ghost use Rattle.drift_laws.specs.RangeEnds.{lent};
 ghost use Rattle.drift_laws.specs.ChainParts.{chain, Long};
 ghost use Rattle.fit.specs.RangesByValue.{range_of};
-ghost use Rattle.segment_runs.specs.LastRuns.{LastRun};
+ghost use Rattle.fit.specs.LastRuns.{LastRun};
 ghost use Rattle.preview.specs.LongerRuns.{RunWith};
 
-use definitions::limits::SEGMENT_LIMIT;
 use fit::cut::begin;
 use fit::ends::{Range, range_at};
+use fit::last_run::Found;
 use fit::run::{Reach, run_on};
-use segment_runs::last_run::Found;
 
-// How far the last run goes among the ranges and one more: up to that one, which then joins it, or only before it, as it always is where the run has as many ranges as the limit allows. The chains hold the run's polygon.
+// How far the last run goes among the ranges and one more: up to that one, which then joins it, or only before it. The chains hold the run's polygon.
 pub fn run_with(
     times: &[u32],
     highs: &[i32],
@@ -27,18 +26,11 @@ pub fn run_with(
     last: Found,
     r: Range,
 ) -> Reach
-    requires { (AcceptedLists (longer (lent times.now highs.now lows.now) (range_of r))) × (LastRun (lent times.now highs.now lows.now) (length times.now) (chain up_times.old up_values.old) (chain down_times.old down_values.old) last) × (length times.now < most_ranges) × (Long segment_limit (chain up_times.old up_values.old)) × (Long segment_limit (chain down_times.old down_values.old)) }
+    requires { (AcceptedLists (longer (lent times.now highs.now lows.now) (range_of r))) × (LastRun (lent times.now highs.now lows.now) (length times.now) (chain up_times.old up_values.old) (chain down_times.old down_values.old) last) × (length times.now < most_ranges) × (Long most_ranges (chain up_times.old up_values.old)) × (Long most_ranges (chain down_times.old down_values.old)) }
     ensures { RunWith (lent times.now highs.now lows.now) (range_of r) last.start (chain up_times.new up_values.new) (chain down_times.new down_values.new) result }
 {
     let n = times.len();
     let start = last.start;
-    if SEGMENT_LIMIT <= n - start {
-        let full = last.polygon;
-        return Reach {
-            end: n,
-            polygon: full,
-        };
-    }
     if n - start < 2 {
         let first = range_at(times, highs, lows, start);
         let two = begin(up_times, up_values, down_times, down_values, first, r);

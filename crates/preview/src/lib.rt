@@ -6,10 +6,10 @@ ghost use Rattle.fit.specs.RangesByValue.{range_of};
 ghost use Rattle.preview.specs.PreviewPromise.{PreviewPromise};
 ghost use Rattle.preview.specs.FoundEffects.{Unrefused, EffectGiven};
 
-use definitions::limits::SEGMENT_LIMIT;
+use definitions::limits::MOST_RANGES;
 use fit::ends::Range;
+use fit::last_run::last_run;
 use joining::run_with;
-use segment_runs::last_run::last_run;
 use values::reaching::outlook_of;
 use values::{Outlook, Service};
 
@@ -26,10 +26,10 @@ fn effect(v: Service, times: &[u32], lows: &[i32], highs: &[i32], r: Range) -> P
     requires { Unrefused (service_of v) (record { times = times.now; lows = lows.now; highs = highs.now }) (range_of r) }
     ensures { EffectGiven (service_of v) (record { times = times.entry.now; lows = lows.now; highs = highs.now }) (range_of r) result }
 {
-    let mut up_times = [0u32; SEGMENT_LIMIT];
-    let mut up_values = [0i32; SEGMENT_LIMIT];
-    let mut down_times = [0u32; SEGMENT_LIMIT];
-    let mut down_values = [0i32; SEGMENT_LIMIT];
+    let mut up_times = [0u32; MOST_RANGES];
+    let mut up_values = [0i32; MOST_RANGES];
+    let mut down_times = [0u32; MOST_RANGES];
+    let mut down_values = [0i32; MOST_RANGES];
     let n = times.len();
     let last = last_run(
         times,

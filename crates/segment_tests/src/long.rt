@@ -26,7 +26,7 @@ fn ranges(name: &[u8], shape: Shape, first: u64, gap: u64, level: i32) {
     lists(name, shape, first, gap, level, 4096, 4096);
 }
 
-// ---- as few segments as there can be
+// ---- one segment
 
 fn bowl() {
     ranges(b"bowl", Shape::Bowl, 0, 1, 268435456);
@@ -51,15 +51,6 @@ fn full() {
         1,
         -268435456,
     );
-}
-
-// ---- segments at their limit, and just past it
-
-fn limit() {
-    lists(b"full, 1024 ranges", Shape::Full, 0, 1, 0, 1024, 1024);
-    lists(b"full, 1025 ranges", Shape::Full, 0, 1, 0, 1025, 1025);
-    lists(b"bowl, 1026 ranges", Shape::Bowl, 0, 1, 5000002, 1026, 1026);
-    lists(b"waist, 2049 ranges", Shape::Waist, 0, 1, 3, 2049, 2049);
 }
 
 // ---- as many segments as there can be
@@ -159,7 +150,6 @@ pub fn all() {
     bowl();
     waist();
     full();
-    limit();
     parabola();
     zigzag();
     drift();

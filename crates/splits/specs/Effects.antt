@@ -4,8 +4,8 @@
 --     effect_after v rs r               the effect of r after rs
 --     segments-some, segments_of-length where there is a range there is a segment; as many are given as there are
 --     effect_first                     a first range begins a segment, open
---     effect_joins                     a range that can be one segment with the last segment's ranges joins it, and the outlook is that of the longer segment
---     effect_begins                    one that cannot begins a segment, open
+--     effect_joins                     a range that some line fits together with the last segment joins it, and the outlook is that of the longer segment
+--     effect_begins                    a range that no line fits so begins a segment, open
 --     Next, next                       these cases in one: a range joins and there are as many segments, or it begins one and there is one more
 --     effects_after v front rs, effects v rs   the effects of rs, each after those before it: after the ranges in front, and after none
 --     begun_in, last_outlooks            how many effects begin a segment; the outlook of the last effect before each further beginning, and of the last of all
@@ -27,8 +27,9 @@ use Rattle.std.proofs.Math.Seq.{append_snoc}
 use Rattle.integers.specs.Lists.{last_snoc}
 use Rattle.definitions.specs.Services.{Service}
 use Rattle.definitions.specs.Ranges.{Range}
+use Rattle.definitions.specs.Lines.{has_line}
 use Rattle.definitions.specs.Splits.{last_run}
-use Rattle.definitions.specs.Segments.{segments, one_segment}
+use Rattle.definitions.specs.Segments.{segments}
 use Rattle.definitions.specs.Outlook.{Outlook, open_strip, outlook}
 use Rattle.definitions.specs.Results.{Segment, segment_of, segments_of}
 use Rattle.definitions.specs.Previews.{Effect, joins, begins, last_outlook, effect_of, effect_outlook}
@@ -47,43 +48,43 @@ snoc-long xs x = length-append xs (x ∷ []) ∙ add-one (length xs)
 
 segments-one : (r : Range) → segments (r ∷ []) ≡ (r ∷ []) ∷ []
 unfolding segments
-segments-one r = cut_cons one_segment r [] ∙ cut_from_nil one_segment (r ∷ [])
+segments-one r = cut_cons has_line r [] ∙ cut_from_nil has_line (r ∷ [])
 
 segments-last : (rs : List Range) → 0 < length rs → segments rs ≡ drop_last (segments rs) ++ (last_run (segments rs) ∷ [])
 unfolding segments
-segments-last rs h = cut_last one_segment rs h
+segments-last rs h = cut_last has_line rs h
 
 pub segments-some : (rs : List Range) → 0 < length rs → 0 < length (segments rs)
 segments-some rs h = omega (arith, ap length (segments-last rs h), snoc-long (drop_last (segments rs)) (last_run (segments rs)))
 
-segments-joins : (rs : List Range) (r : Range) → 0 < length rs → one_segment (grown rs r) ≡ true → segments (rs ++ (r ∷ [])) ≡ drop_last (segments rs) ++ (grown rs r ∷ [])
+segments-joins : (rs : List Range) (r : Range) → 0 < length rs → has_line (grown rs r) ≡ true → segments (rs ++ (r ∷ [])) ≡ drop_last (segments rs) ++ (grown rs r ∷ [])
 unfolding segments
-segments-joins rs r h t = cut_joins one_segment rs r (drop_last (segments rs)) (last_run (segments rs)) (cut_last one_segment rs h) t
+segments-joins rs r h t = cut_joins has_line rs r (drop_last (segments rs)) (last_run (segments rs)) (cut_last has_line rs h) t
 
-segments-begins : (rs : List Range) (r : Range) → 0 < length rs → one_segment (grown rs r) ≡ false → segments (rs ++ (r ∷ [])) ≡ segments rs ++ ((r ∷ []) ∷ [])
+segments-begins : (rs : List Range) (r : Range) → 0 < length rs → has_line (grown rs r) ≡ false → segments (rs ++ (r ∷ [])) ≡ segments rs ++ ((r ∷ []) ∷ [])
 unfolding segments
 segments-begins rs r h t =
-    cut_begins one_segment rs r (drop_last (segments rs)) (last_run (segments rs)) (cut_last one_segment rs h) t
+    cut_begins has_line rs r (drop_last (segments rs)) (last_run (segments rs)) (cut_last has_line rs h) t
     ∙ sym (append_snoc (drop_last (segments rs)) (last_run (segments rs)) ((r ∷ []) ∷ []))
-    ∙ ap (λ runs. runs ++ ((r ∷ []) ∷ [])) (sym (cut_last one_segment rs h))
+    ∙ ap (λ runs. runs ++ ((r ∷ []) ∷ [])) (sym (cut_last has_line rs h))
 
 drop_last-snoc : {A : Type 0} (xs : List A) (x : A) → drop_last (xs ++ (x ∷ [])) ≡ xs
 drop_last-snoc [] x = refl
 drop_last-snoc (y ∷ []) x = refl
 drop_last-snoc (y ∷ z ∷ xs) x = ap (λ l. y ∷ l) (drop_last-snoc (z ∷ xs) x)
 
-joins-count : (rs : List Range) (r : Range) → 0 < length rs → one_segment (grown rs r) ≡ true → length (segments (rs ++ (r ∷ []))) ≡ length (segments rs)
+joins-count : (rs : List Range) (r : Range) → 0 < length rs → has_line (grown rs r) ≡ true → length (segments (rs ++ (r ∷ []))) ≡ length (segments rs)
 joins-count rs r h t =
     ap length (segments-joins rs r h t)
     ∙ snoc-long (drop_last (segments rs)) (grown rs r)
     ∙ sym (ap length (segments-last rs h) ∙ snoc-long (drop_last (segments rs)) (last_run (segments rs)))
 
-begins-count : (rs : List Range) (r : Range) → 0 < length rs → one_segment (grown rs r) ≡ false → length (segments (rs ++ (r ∷ []))) ≡ suc (length (segments rs))
+begins-count : (rs : List Range) (r : Range) → 0 < length rs → has_line (grown rs r) ≡ false → length (segments (rs ++ (r ∷ []))) ≡ suc (length (segments rs))
 begins-count rs r h t = ap length (segments-begins rs r h t) ∙ snoc-long (segments rs) (r ∷ [])
 
 first_count : (r : Range) → length (segments (r ∷ [])) ≡ suc (length (segments []))
 unfolding segments
-first_count r = ap length (segments-one r) ∙ ap (λ runs. suc (length runs)) (sym (cut_nil one_segment))
+first_count r = ap length (segments-one r) ∙ ap (λ runs. suc (length runs)) (sym (cut_nil has_line))
 
 -- ---- the effect
 
@@ -124,26 +125,26 @@ module _ (v : Service) where
       effect_of-more (length (segments [])) (segments_of v (r ∷ [])) (segments_of-length v (r ∷ []) ∙ first_count r)
       ∙ ap begins (last-outlook v (r ∷ []) [] (r ∷ []) (segments-one r))
 
-  pub effect_joins : (rs : List Range) (r : Range) → 0 < length rs → one_segment (grown rs r) ≡ true → effect_after v rs r ≡ joins (outlook v (grown rs r))
+  pub effect_joins : (rs : List Range) (r : Range) → 0 < length rs → has_line (grown rs r) ≡ true → effect_after v rs r ≡ joins (outlook v (grown rs r))
   effect_joins rs r h t =
       effect_of-same (length (segments rs)) (segments_of v (rs ++ (r ∷ []))) (segments_of-length v (rs ++ (r ∷ [])) ∙ joins-count rs r h t)
       ∙ ap joins (last-outlook v (rs ++ (r ∷ [])) (drop_last (segments rs)) (grown rs r) (segments-joins rs r h t))
 
-  pub effect_begins : (rs : List Range) (r : Range) → 0 < length rs → one_segment (grown rs r) ≡ false → effect_after v rs r ≡ begins open_strip
+  pub effect_begins : (rs : List Range) (r : Range) → 0 < length rs → has_line (grown rs r) ≡ false → effect_after v rs r ≡ begins open_strip
   unfolding outlook
   effect_begins rs r h t =
       effect_of-more (length (segments rs)) (segments_of v (rs ++ (r ∷ []))) (segments_of-length v (rs ++ (r ∷ [])) ∙ begins-count rs r h t)
       ∙ ap begins (last-outlook v (rs ++ (r ∷ [])) (segments rs) (r ∷ []) (segments-begins rs r h t))
 
 pub data Next (v : Service) (rs : List Range) (r : Range) : Type 0 where
-  next_joins : 0 < length rs → one_segment (grown rs r) ≡ true → effect_after v rs r ≡ joins (outlook v (grown rs r)) → length (segments (rs ++ (r ∷ []))) ≡ length (segments rs) → Next v rs r
-  next_begins : (length rs ≡ 0) ⊎ (one_segment (grown rs r) ≡ false) → effect_after v rs r ≡ begins open_strip → length (segments (rs ++ (r ∷ []))) ≡ suc (length (segments rs)) → Next v rs r
+  next_joins : 0 < length rs → has_line (grown rs r) ≡ true → effect_after v rs r ≡ joins (outlook v (grown rs r)) → length (segments (rs ++ (r ∷ []))) ≡ length (segments rs) → Next v rs r
+  next_begins : (length rs ≡ 0) ⊎ (has_line (grown rs r) ≡ false) → effect_after v rs r ≡ begins open_strip → length (segments (rs ++ (r ∷ []))) ≡ suc (length (segments rs)) → Next v rs r
 
 pub next : (v : Service) (rs : List Range) (r : Range) → Next v rs r
 next v [] r = next_begins (inl refl) (effect_first v r) (first_count r)
-next v (s ∷ rs) r = by (one_segment (grown (s ∷ rs) r)) refl
+next v (s ∷ rs) r = by (has_line (grown (s ∷ rs) r)) refl
   where
-    by : (b : Bool) → one_segment (grown (s ∷ rs) r) ≡ b → Next v (s ∷ rs) r
+    by : (b : Bool) → has_line (grown (s ∷ rs) r) ≡ b → Next v (s ∷ rs) r
     by true t = next_joins (omega arith) t (effect_joins v (s ∷ rs) r (omega arith) t) (joins-count (s ∷ rs) r (omega arith) t)
     by false t = next_begins (inr t) (effect_begins v (s ∷ rs) r (omega arith) t) (begins-count (s ∷ rs) r (omega arith) t)
 
@@ -212,7 +213,7 @@ module _ (v : Service) where
 
   pub effects_begun : (rs : List Range) → begun_in (effects v rs) ≡ length (segments rs)
   unfolding effects segments
-  effects_begun rs = omega (arith, begun_after [] rs, ap length (cut_nil one_segment))
+  effects_begun rs = omega (arith, begun_after [] rs, ap length (cut_nil has_line))
 
   -- ---- what is told last of each segment
 
@@ -228,7 +229,7 @@ module _ (v : Service) where
       ∙ sym (map-append (outlook v) (drop_last (segments front)) (last_run (segments front) ∷ []))
       ∙ ap (map (outlook v)) (sym (segments-last front h))
 
-  told_joins : (e : Effect) (front : List Range) (r : Range) (rs : List Range) → 0 < length front → one_segment (grown front r) ≡ true
+  told_joins : (e : Effect) (front : List Range) (r : Range) (rs : List Range) → 0 < length front → has_line (grown front r) ≡ true
       → ToldAfter (joins (outlook v (grown front r))) (front ++ (r ∷ [])) rs → ToldAfter e front (r ∷ rs)
   unfolding effects_after last_outlooks effect_outlook segments
   told_joins e front r rs h t later told =
@@ -236,10 +237,10 @@ module _ (v : Service) where
       let es = effects_after v (front ++ (r ∷ [])) rs in
       ap (λ x. map (outlook v) (drop_last (segments front)) ++ last_outlooks (e ∷ x ∷ es)) (effect_joins v front r h t)
       ∙ ap (λ runs. map (outlook v) runs ++ last_outlooks (joins o ∷ es)) (sym (ap drop_last (segments-joins front r h t) ∙ drop_last-snoc (drop_last (segments front)) (grown front r)))
-      ∙ later (ap (outlook v) (sym (last_run_joins one_segment front r t)))
+      ∙ later (ap (outlook v) (sym (last_run_joins has_line front r t)))
       ∙ ap (λ l. map (outlook v) (segments l)) (append_snoc front r rs)
 
-  told_begins : (e : Effect) (front : List Range) (r : Range) (rs : List Range) → 0 < length front → one_segment (grown front r) ≡ false
+  told_begins : (e : Effect) (front : List Range) (r : Range) (rs : List Range) → 0 < length front → has_line (grown front r) ≡ false
       → ToldAfter (begins open_strip) (front ++ (r ∷ [])) rs → ToldAfter e front (r ∷ rs)
   unfolding effects_after last_outlooks effect_outlook segments outlook
   told_begins e front r rs h t later told =
@@ -249,7 +250,7 @@ module _ (v : Service) where
       ∙ sym (append_snoc (map (outlook v) (drop_last (segments front))) (effect_outlook e) rest)
       ∙ ap (λ os. os ++ rest) (told_front front (effect_outlook e) h told)
       ∙ ap (λ runs. map (outlook v) runs ++ rest) (sym (ap drop_last (segments-begins front r h t) ∙ drop_last-snoc (segments front) (r ∷ [])))
-      ∙ later (ap (outlook v) (sym (last_run_begins one_segment front r t)))
+      ∙ later (ap (outlook v) (sym (last_run_begins has_line front r t)))
       ∙ ap (λ l. map (outlook v) (segments l)) (append_snoc front r rs)
 
   told_after : (e : Effect) (front rs : List Range) → 0 < length front → ToldAfter e front rs
@@ -257,9 +258,9 @@ module _ (v : Service) where
   told_after e front [] h told = told_front front (effect_outlook e) h told ∙ ap (λ l. map (outlook v) (segments l)) (sym (append-nil front))
   told_after e front (r ∷ rs) h told =
       let long : 0 < length (front ++ (r ∷ [])) = omega (arith, snoc-long front r) in
-      by (one_segment (grown front r)) refl (told_after (joins (outlook v (grown front r))) (front ++ (r ∷ [])) rs long) (told_after (begins open_strip) (front ++ (r ∷ [])) rs long) told
+      by (has_line (grown front r)) refl (told_after (joins (outlook v (grown front r))) (front ++ (r ∷ [])) rs long) (told_after (begins open_strip) (front ++ (r ∷ [])) rs long) told
     where
-      by : (b : Bool) → one_segment (grown front r) ≡ b → ToldAfter (joins (outlook v (grown front r))) (front ++ (r ∷ [])) rs → ToldAfter (begins open_strip) (front ++ (r ∷ [])) rs → ToldAfter e front (r ∷ rs)
+      by : (b : Bool) → has_line (grown front r) ≡ b → ToldAfter (joins (outlook v (grown front r))) (front ++ (r ∷ [])) rs → ToldAfter (begins open_strip) (front ++ (r ∷ [])) rs → ToldAfter e front (r ∷ rs)
       by true t joined begun = told_joins e front r rs h t joined
       by false t joined begun = told_begins e front r rs h t begun
 
@@ -273,7 +274,7 @@ module _ (v : Service) where
 
   pub effects_outlooks : (rs : List Range) → last_outlooks (effects v rs) ≡ map (λ s. s.outlook) (segments_of v rs)
   unfolding effects effects_after last_outlooks segments last_run outlook effect_outlook
-  effects_outlooks [] = ap (map (outlook v)) (sym (cut_nil one_segment)) ∙ sym (outlooks_are [])
+  effects_outlooks [] = ap (map (outlook v)) (sym (cut_nil has_line)) ∙ sym (outlooks_are [])
   effects_outlooks (r ∷ rs) =
       let later = effects_after v (r ∷ []) rs in
       ap (λ x. last_outlooks (x ∷ later)) (effect_first v r)

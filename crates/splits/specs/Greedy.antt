@@ -21,7 +21,7 @@ use Rattle.std.proofs.Math.Seq.{append_snoc}
 use Rattle.integers.specs.Booleans.{T→true, true→T, ¬T→false, false→¬T}
 use Rattle.integers.specs.Lists.{Levi, levi}
 use Rattle.definitions.specs.Splits.{cut_from, cut, GoodRun, GoodRuns, Split, end_of, last_run}
-use Rattle.splits.specs.Runs.{flatten_nil, flatten_cons, flatten_closing, end-nil, end_zero, end_suc, end_rises, good_run, good_snoc, good_at}
+use Rattle.splits.specs.Runs.{flatten_nil, flatten_cons, flatten_closing, end-nil, end_zero, end_suc, end_rises, good-run, good_snoc, good_at}
 use Rattle.splits.specs.Cutting.{FirstRun, first_run, cut_nil, cut_cons, cut_from_nil, cut_from_joins, cut_from_begins, cut-whole, cut_stops, cut_last}
 
 module _ {A : Type 0} where
@@ -144,7 +144,7 @@ module _ {A : Type 0} where
       where
         by : Levi r (flatten runs) ws ys → ((vs zs : List A) → flatten runs ≡ vs ++ zs → Ahead good runs vs zs) → Ahead good (r ∷ runs) ws ys
         by (inl (vs, p, q)) ih = behind r runs ws ys vs p (ih vs ys q)
-        by (inr (x, us, p, q)) ih = rw q (beyond r runs ws x us p (ok_front r (flatten runs) (rw flatten_cons at o)) (good_run Good r gs.0) ih)
+        by (inr (x, us, p, q)) ih = rw q (beyond r runs ws x us p (ok_front r (flatten runs) (rw flatten_cons at o)) (good-run Good r gs.0) ih)
 
     split_ahead : (xs : List A) (runs : List (List A)) → Ok xs → Split Good xs runs → Ahead good runs [] xs
     split_ahead xs runs o s = ahead runs [] xs (subst Ok (sym s.whole) o) s.each s.whole

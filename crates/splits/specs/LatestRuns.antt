@@ -3,7 +3,6 @@
 --     latest-suffix            it is an end of the list
 --     latest_good              it is good, and not empty where the list is not
 --     latest_longest           no good end of the list is longer
---     latest_step              an end that the test does not pass is passed over
 --     latest_all, latest_drop  how to know it: the whole list is good; or an end is good, and not with the element before it
 --     cut_back                  the list cut from its end: the runs from the last on, each from its end
 --     latest_cut               the latest run is the first of these, and what stands before it is cut in the same manner
@@ -51,7 +50,7 @@ module _ {A : Type 0} where
         by true more = ([], refl)
         by false more = (x ∷ more.0, ap (λ l. x ∷ l) more.1)
 
-    pub latest_step : (x : A) (xs : List A) → good (x ∷ xs) ≡ false → latest_by good (x ∷ xs) ≡ latest_by good xs
+    latest_step : (x : A) (xs : List A) → good (x ∷ xs) ≡ false → latest_by good (x ∷ xs) ≡ latest_by good xs
     unfolding latest_by
     latest_step x xs e = ap (λ (b : Bool). elim b [ true ↦ x ∷ xs | false ↦ latest_by good xs ]) e
 

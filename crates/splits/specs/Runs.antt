@@ -9,7 +9,7 @@
 --     RunWith, run_with                            the run that has the k-th element of all, counted from 1; there is one for each k up to the number of elements
 --     FrontOf                                      a list is the front, up to the k-th element, of the run that has it
 --     same_place                                   two fronts of one list of runs that end at the same element, inside a run, are the same
---     good_run, good_snoc                          a run of a split is good; a good list that is not empty is a run of a split
+--     good-run, good_snoc                          a run of a split is good; a good list that is not empty is a run of a split
 --     good_runs_append, good_at                    the runs of two splits; a run among those of a split
 --
 -- Assumes nothing.
@@ -151,9 +151,9 @@ module _ {A : Type 0} where
 
   -- ---- good runs
   module _ (Good : List A → Type 0) where
-    pub good_run : (run : List A) → GoodRun Good run → Good run
-    good_run (x ∷ run) g = g
-    good_run [] g = absurd g
+    pub good-run : (run : List A) → GoodRun Good run → Good run
+    good-run (x ∷ run) g = g
+    good-run [] g = absurd g
 
     pub good_snoc : (run : List A) (x : A) → Good (run ++ (x ∷ [])) → GoodRun Good (run ++ (x ∷ []))
     good_snoc [] x g = g

@@ -4,48 +4,43 @@
 --
 --     TimesOf                          a given segment's first and last times are those of the first and last of some ranges
 --     segment-first_time, segment-last_time, segments_of-at   what is given for a run, and for the j-th segment
---     segment-has_line                 a run that can be one segment has a line
 --     running-zero, running-joins, running-begins, running-part   the segment then running: range by range, and as a part of a segment of the whole trace
 --     running-front                    the segment then running after k ranges is the front, up to range k, of the whole trace's segment that has range k
 --     TwoWithout                       two ranges of a run, at different times, such that no line fits those two and a further one
 --
 -- With `decides`:
 --
---     one_decides                      among ordered ranges, `one_segment` decides whether they can be one segment
---     segments_split                   the segments are a split: each run has a line and at most 1,024 ranges
+--     segments_split                   the segments are a split
 --     segments_times                   the first and last times given for each segment are those of its run's first and last ranges
 --     segments_ranges                  the ranges from a segment's first time to its last time are its run
 --     segments_ahead_times             the last time of the j-th segment is at or after the last time of the j-th run of any split
 --     segments_ahead                   the same by the number of ranges in the first j runs, for every j
 --     segments_fewest                  every split has at least as many runs as there are segments
 --     segments_back                    cutting from the end gives as many runs
---     running_good                     the segment then running is not empty, has a line and at most 1,024 ranges
---     segments_long                    of more than 1,024 ranges with a line, the first 1,024 are a segment, and the others are cut anew
---     segments_close                   with `closes`: where a further range closes a segment of fewer than 1,024, that segment holds two ranges such that no line fits those two and the further one
+--     running_good                     the segment then running is not empty and has a line
+--     segments_close                   with `closes`: where a further range closes a segment, that segment holds two ranges such that no line fits those two and the further one
 --     segments_count, segments_room    with `two`: at most half as many segments as ranges, rounded up: 2,048 of 4,096
 --
 -- Assumes nothing.
 use Rattle.std.specs.Prelude.{◌≡◌, refl, true, false, ℕ, suc, ◌+◌, ◌-◌, ◌*◌, ◌≤◌, ◌<◌, length, get_or, take, drop}
-use Rattle.std.proofs.Common.{sym, ap, ◌∙◌, take-append-drop, take-suc}
+use Rattle.std.proofs.Common.{sym, ap, ◌∙◌, arith, take-append-drop, take-suc}
 use Rattle.std.proofs.Math.Path.{subst}
 use mathlib.Core.List.{List, [], ◌∷◌, ◌++◌, flatten, reverse}
-use native.Mathlib.Omega.{arith}
 use Rattle.std.proofs.Math.ListN.{get_or-map}
 use Rattle.std.proofs.Math.Seq.{length-take-le}
 use Rattle.integers.specs.Lists.{In, filter}
 use Rattle.definitions.specs.Services.{Service}
-use Rattle.definitions.specs.Spans.{most_ranges, segment_limit, segment_room}
+use Rattle.definitions.specs.Spans.{most_ranges, segment_room}
 use Rattle.definitions.specs.Ranges.{Range}
 use Rattle.definitions.specs.Lines.{has_line}
 use Rattle.definitions.specs.Fit.{HasLine, Ordered}
 use Rattle.definitions.specs.Splits.{cut, GoodRun, GoodRuns, Split, end_of, last_run}
-use Rattle.definitions.specs.Segments.{segments, one_segment, OneSegment, running_after}
+use Rattle.definitions.specs.Segments.{segments, running_after}
 use Rattle.definitions.specs.Results.{Segment, segment_of, segments_of}
-use Rattle.splits.specs.Runs.{FrontOf, run_with, good_run, good_at}
+use Rattle.splits.specs.Runs.{FrontOf, run_with, good-run, good_at}
 use Rattle.splits.specs.Cutting.{cut-whole, last_run_joins, last_run_begins, last_run_take}
-use Rattle.splits.specs.Greedy.{Decides, cut_split, cut_ahead, cut_fewest, ok_closing, last_run_good}
+use Rattle.splits.specs.Greedy.{Decides, cut_split, cut_ahead, cut_fewest, cut_closes, ok_closing, last_run_good}
 use Rattle.splits.specs.Backward.{cut_back}
-use Rattle.splits.specs.Limited.{limited_decides, limited_closes, limited_first}
 use Rattle.splits.specs.OrderedRanges.{first_time_of, last_time_of, ordered-left, last-range}
 use Rattle.splits.specs.RunTimes.{in_span, split_run_good, split_ranges, split_ahead_times}
 
@@ -90,33 +85,29 @@ pub segments_of-at : (v : Service) (rs : List Range) (j : ℕ) → get_or (segme
 unfolding segments_of
 segments_of-at v rs j = get_or-map (segment_of v) (segments rs) j []
 
-pub segment-has_line : (run : List Range) → GoodRun OneSegment run → GoodRun HasLine run
-segment-has_line [] g = g
-segment-has_line (r ∷ run) g = g.is_good
-
 -- ---- the segment then running
 
 pub running-zero : (rs : List Range) → running_after 0 rs ≡ []
 unfolding running_after segments cut last_run
 running-zero rs = refl
 
-pub running-joins : (rs : List Range) (k : ℕ) (d : Range) → k < length rs → one_segment (running_after k rs ++ (get_or rs k d ∷ [])) ≡ true → running_after (suc k) rs ≡ running_after k rs ++ (get_or rs k d ∷ [])
+pub running-joins : (rs : List Range) (k : ℕ) (d : Range) → k < length rs → has_line (running_after k rs ++ (get_or rs k d ∷ [])) ≡ true → running_after (suc k) rs ≡ running_after k rs ++ (get_or rs k d ∷ [])
 unfolding running_after segments
-running-joins rs k d h t = ap (λ l. last_run (cut one_segment l)) (take-suc rs k d h) ∙ last_run_joins one_segment (take k rs) (get_or rs k d) t
+running-joins rs k d h t = ap (λ l. last_run (cut has_line l)) (take-suc rs k d h) ∙ last_run_joins has_line (take k rs) (get_or rs k d) t
 
-pub running-begins : (rs : List Range) (k : ℕ) (d : Range) → k < length rs → one_segment (running_after k rs ++ (get_or rs k d ∷ [])) ≡ false → running_after (suc k) rs ≡ get_or rs k d ∷ []
+pub running-begins : (rs : List Range) (k : ℕ) (d : Range) → k < length rs → has_line (running_after k rs ++ (get_or rs k d ∷ [])) ≡ false → running_after (suc k) rs ≡ get_or rs k d ∷ []
 unfolding running_after segments
-running-begins rs k d h t = ap (λ l. last_run (cut one_segment l)) (take-suc rs k d h) ∙ last_run_begins one_segment (take k rs) (get_or rs k d) t
+running-begins rs k d h t = ap (λ l. last_run (cut has_line l)) (take-suc rs k d h) ∙ last_run_begins has_line (take k rs) (get_or rs k d) t
 
 pub running-part : (k : ℕ) (rs : List Range) (before : List (List Range)) (run : List Range) (after : List (List Range)) → segments rs ≡ before ++ (run ∷ after)
     → length (flatten before) < k → k ≤ length (flatten before) + length run → running_after k rs ≡ take (k - length (flatten before)) run
 unfolding running_after segments
-running-part k rs before run after = last_run_take one_segment k rs before run after
+running-part k rs before run after = last_run_take has_line k rs before run after
 
 pub running-front : (k : ℕ) (rs : List Range) → 0 < k → k ≤ length rs → FrontOf k (segments rs) (running_after k rs)
 unfolding segments
 running-front k rs h b =
-    let s = run_with k (segments rs) h (omega (arith, ap length (cut-whole one_segment rs))) in
+    let s = run_with k (segments rs) h (omega (arith, ap length (cut-whole has_line rs))) in
     record { has = s; is = running-part k rs s.before s.run s.after s.runs_are s.over s.within }
 
 -- ---- two by two
@@ -150,17 +141,14 @@ pub record TwoWithout (run : List Range) (further : Range) : Type 0 where
   pub no_line : HasLine (first ∷ second ∷ further ∷ []) → ⊥
 
 module _ (decides : Decides Ordered HasLine has_line) where
-  pub one_decides : Decides Ordered OneSegment one_segment
-  one_decides = limited_decides decides segment_limit (omega arith)
-
-  pub segments_split : (rs : List Range) → Ordered rs → Split OneSegment rs (segments rs)
+  pub segments_split : (rs : List Range) → Ordered rs → Split HasLine rs (segments rs)
   unfolding segments
-  segments_split rs o = cut_split one_decides rs o
+  segments_split rs o = cut_split decides rs o
 
   pub segments_times : (v : Service) (rs : List Range) → Ordered rs → (j : ℕ) → j < length (segments rs) → TimesOf (get_or (segments rs) j []) (get_or (segments_of v rs) j (segment_of v []))
   segments_times v rs o j h = subst (TimesOf (get_or (segments rs) j [])) (sym (segments_of-at v rs j)) (by (get_or (segments rs) j []) (split_run_good (segments_split rs o) j h))
     where
-      by : (run : List Range) → GoodRun OneSegment run → TimesOf run (segment_of v run)
+      by : (run : List Range) → GoodRun HasLine run → TimesOf run (segment_of v run)
       by [] g = absurd g
       by (r ∷ run) g = segment-times v r run
 
@@ -168,46 +156,42 @@ module _ (decides : Decides Ordered HasLine has_line) where
       → filter (in_span (first_time_of (get_or (segments rs) j [])) (last_time_of (get_or (segments rs) j []))) rs ≡ get_or (segments rs) j []
   segments_ranges rs o j h = split_ranges (segments_split rs o) j h o
 
-  pub segments_ahead : (rs : List Range) (runs : List (List Range)) → Ordered rs → Split OneSegment rs runs → (j : ℕ) → end_of j runs ≤ end_of j (segments rs)
+  pub segments_ahead : (rs : List Range) (runs : List (List Range)) → Ordered rs → Split HasLine rs runs → (j : ℕ) → end_of j runs ≤ end_of j (segments rs)
   unfolding segments
-  segments_ahead rs runs o s j = cut_ahead one_decides rs runs o s j
+  segments_ahead rs runs o s j = cut_ahead decides rs runs o s j
 
-  pub segments_ahead_times : (rs : List Range) (runs : List (List Range)) → Ordered rs → Split OneSegment rs runs
+  pub segments_ahead_times : (rs : List Range) (runs : List (List Range)) → Ordered rs → Split HasLine rs runs
       → (j : ℕ) → j < length runs → j < length (segments rs) → last_time_of (get_or runs j []) ≤ last_time_of (get_or (segments rs) j [])
   segments_ahead_times rs runs o s j h k = split_ahead_times o s (segments_split rs o) j (segments_ahead rs runs o s (suc j)) h k
 
-  pub segments_fewest : (rs : List Range) (runs : List (List Range)) → Ordered rs → Split OneSegment rs runs → length (segments rs) ≤ length runs
+  pub segments_fewest : (rs : List Range) (runs : List (List Range)) → Ordered rs → Split HasLine rs runs → length (segments rs) ≤ length runs
   unfolding segments
-  segments_fewest rs runs o s = cut_fewest one_decides rs runs o s
+  segments_fewest rs runs o s = cut_fewest decides rs runs o s
 
-  pub segments_back : (rs : List Range) → Ordered rs → length (cut (λ run. one_segment (reverse run)) (reverse rs)) ≡ length (segments rs)
+  pub segments_back : (rs : List Range) → Ordered rs → length (cut (λ run. has_line (reverse run)) (reverse rs)) ≡ length (segments rs)
   unfolding segments
-  segments_back rs o = cut_back one_decides rs o
+  segments_back rs o = cut_back decides rs o
 
-  pub running_good : (k : ℕ) (rs : List Range) → Ordered rs → 0 < k → k ≤ length rs → GoodRun OneSegment (running_after k rs)
+  pub running_good : (k : ℕ) (rs : List Range) → Ordered rs → 0 < k → k ≤ length rs → GoodRun HasLine (running_after k rs)
   unfolding running_after segments
-  running_good k rs o h b = last_run_good one_decides (take k rs) (omega (arith, length-take-le k rs b)) (ordered-left (take k rs) (drop k rs) (subst Ordered (sym (take-append-drop k rs)) o))
-
-  pub segments_long : (rs : List Range) → Ordered rs → HasLine rs → segment_limit < length rs → segments rs ≡ take segment_limit rs ∷ segments (drop segment_limit rs)
-  unfolding segments
-  segments_long rs o h long = limited_first decides segment_limit (omega arith) rs o h long
+  running_good k rs o h b = last_run_good decides (take k rs) (omega (arith, length-take-le k rs b)) (ordered-left (take k rs) (drop k rs) (subst Ordered (sym (take-append-drop k rs)) o))
 
   module _ (closes : (run : List Range) (w : Range) → Ordered (run ++ (w ∷ [])) → HasLine run → (HasLine (run ++ (w ∷ [])) → ⊥) → TwoWithout run w) where
     pub segments_close : (rs : List Range) (before : List (List Range)) (run : List Range) (w : Range) (more : List Range) (after : List (List Range)) → Ordered rs
-        → segments rs ≡ before ++ (run ∷ (w ∷ more) ∷ after) → length run < segment_limit → TwoWithout run w
+        → segments rs ≡ before ++ (run ∷ (w ∷ more) ∷ after) → TwoWithout run w
     unfolding segments
-    segments_close rs before run w more after o e below =
-        let runs-good = subst (GoodRuns OneSegment) e (cut_split one_decides rs o).each in
-        let has-line = (good_run OneSegment run (good_at OneSegment before run ((w ∷ more) ∷ after) runs-good)).is_good in
-        closes run w (ok_closing one_decides rs before run w more after o e) has-line (limited_closes decides segment_limit (omega arith) rs before run w more after o e below)
+    segments_close rs before run w more after o e =
+        let runs-good = subst (GoodRuns HasLine) e (cut_split decides rs o).each in
+        let has-line = good-run HasLine run (good_at HasLine before run ((w ∷ more) ∷ after) runs-good) in
+        closes run w (ok_closing decides rs before run w more after o e) has-line (cut_closes decides rs before run w more after o e)
 
   -- ---- how many
   module _ (two : (r s : Range) → Ordered (r ∷ s ∷ []) → HasLine (r ∷ s ∷ [])) where
-    pairs_good : (rs : List Range) → Ordered rs → GoodRuns OneSegment (pairs rs)
+    pairs_good : (rs : List Range) → Ordered rs → GoodRuns HasLine (pairs rs)
     unfolding pairs
     pairs_good [] o = tt
-    pairs_good (r ∷ []) o = (one_decides.one r o, tt)
-    pairs_good (r ∷ s ∷ rs) o = (record { is_good = two r s (ordered-left (r ∷ s ∷ []) rs o); within = omega arith }, pairs_good rs o.2.2)
+    pairs_good (r ∷ []) o = (decides.one r o, tt)
+    pairs_good (r ∷ s ∷ rs) o = (two r s (ordered-left (r ∷ s ∷ []) rs o), pairs_good rs o.2.2)
 
     pub segments_count : (rs : List Range) → Ordered rs → 2 * length (segments rs) ≤ length rs + 1
     segments_count rs o = omega (arith, segments_fewest rs (pairs rs) o (record { whole = pairs-whole rs; each = pairs_good rs o }), pairs-count rs)

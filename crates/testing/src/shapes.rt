@@ -7,7 +7,7 @@ use fields::numbers::signed;
 
 #[derive(Drop)]
 pub enum Shape {
-    // a line fits it whole, with as many corners as there can be: all highs and all lows are on a hull, and each edge counts
+    // one segment with as many corners as there can be: all highs and all lows are on a hull, and each edge counts
     Bowl,
     // the same, but so narrow in the middle that few corners are left
     Waist,

@@ -16,7 +16,7 @@ use Rattle.definitions.specs.Times.{Time}
 use Rattle.definitions.specs.Ranges.{Range}
 use Rattle.definitions.specs.Fit.{HasLine, Ordered}
 use Rattle.definitions.specs.Splits.{GoodRun, GoodRuns}
-use Rattle.definitions.specs.Segments.{segments, OneSegment}
+use Rattle.definitions.specs.Segments.{segments}
 use Rattle.definitions.specs.Outlook.{Outlook, open_strip, lines, outlook}
 use Rattle.definitions.specs.Results.{Segment, segment_of, segments_of, time_number, slow_line, fast_line, some_number, all_number, numbers_of}
 use Rattle.splits.specs.OrderedRanges.{ordered_at}
@@ -76,11 +76,11 @@ run-back v good run o h = row_back (segment_of v run) (by run o h)
     by [] o h = omega arith
     by (r ∷ rs) o h = run_telling v good (r ∷ rs) o h
 
-good-line : (run : List Range) → GoodRun OneSegment run → HasLine run
+good-line : (run : List Range) → GoodRun HasLine run → HasLine run
 good-line [] g = no-ranges
-good-line (r ∷ rs) g = g.is_good
+good-line (r ∷ rs) g = g
 
-line_at : (runs : List (List Range)) → GoodRuns OneSegment runs → (j : ℕ) → HasLine (get_or runs j [])
+line_at : (runs : List (List Range)) → GoodRuns HasLine runs → (j : ℕ) → HasLine (get_or runs j [])
 line_at [] g j = no-ranges
 line_at (run ∷ runs) g zero = good-line run g.0
 line_at (run ∷ runs) g (suc j) = line_at runs g.1 j

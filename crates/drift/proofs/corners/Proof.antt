@@ -107,7 +107,7 @@ module _ (c : tie.Else2) where
   few = omega (arith, counted.1, lists-few tried zero)
 
 last-run-requires : tie.Need-last-run-requires
-last-run-requires c κs = let e = c.before.before.before.before in (good e, (counted e).0, (counted e).1, record { times_long = omega arith; values_long = omega arith }, record { times_long = omega arith; values_long = omega arith })
+last-run-requires c κs = let e = c.before.before.before.before in (good e, (counted e).0, (counted e).1, record { times_long = few e; values_long = few e }, record { times_long = few e; values_long = few e })
 
 sub-if3 : tie.Need-overflow-sub-if3
 sub-if3 c = le_of_lt c.before.before.before.before.last_run_is.ensures.begins
@@ -131,10 +131,10 @@ list-corners-requires c κs =
     let two = two-ranges c.before.before.before.before.before.before.before.before in
     let k = (start e).args.k in
     let z = found.ensures.polygon_is two in
-    let few-points = points_few (good e) found.result.start k two (counted e).1 found.ensures.segment.is_good z in
+    let few-points = points_few (good e) found.result.start k two (counted e).1 found.ensures.line z in
     let roomy = room (tried e) (zero e) in (
       z.shape,
-      proper_corners (good e) found.result.start k two (counted e).1 found.ensures.segment.is_good z,
+      proper_corners (good e) found.result.start k two (counted e).1 found.ensures.line z,
       record { ps_long = omega (arith, few e, few-points, roomy.ps_long); qs_long = omega (arith, few e, few-points, roomy.qs_long); ds_long = omega (arith, few e, few-points, roomy.ds_long) },
     )
 
@@ -155,7 +155,7 @@ returns-4 c =
     let two = two-ranges c.before.before.before.before.before.before.before.before.before.before.before.before in
     let listed = c.before.before.before.list-corners in
     promise_corners s.args.k (lists s) s.args.ps.now s.args.qs.now s.args.ds.now (passed e) (good e) (counted e).1 found.ensures two listed.result
-    (run_corners (good e) found.result.start s.args.k two (counted e).1 found.ensures.segment.is_good (found.ensures.polygon_is two) listed.ensures)
+    (run_corners (good e) found.result.start s.args.k two (counted e).1 found.ensures.line (found.ensures.polygon_is two) listed.ensures)
 
 slice-aggregate-last-run : tie.Need-slice-aggregate-last-run
 slice-aggregate-last-run c = search rules

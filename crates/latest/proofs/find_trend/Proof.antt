@@ -34,7 +34,7 @@ latest-start-requires : tie.Need-latest-start-requires
 latest-start-requires c κs =
     let ready = c.before.before.before.before.before.requires in
     let two : 2 ≤ length c.before.before.before.before.before.args.times.now = ready.two in
-    (ready.tried.lists_accepted, omega arith, ready.few, search rules, search rules)
+    (ready.tried.lists_accepted, omega arith, ready.tried.few, search rules, search rules)
 
 slice-aggregate-run-from : tie.Need-slice-aggregate-run-from
 slice-aggregate-run-from c = search rules
@@ -51,7 +51,7 @@ slice-aggregate-run-from-4 c = search rules
 run-from-requires : tie.Need-run-from-requires
 run-from-requires c κs =
     let s = c.before.before.before.before.before.before.before.before.before.before.before.before.before.before in
-    let few = s.requires.few in
+    let few = s.requires.tried.few in
     let start = c.before.before.before.before.before.before.before.before.latest-start in
     let kept = start.auto.1.1.1 in
     (s.requires.tried.lists_accepted, omega (arith, two_at s start.ensures), le_refl _, record { times_long = omega (arith, few, kept.0); values_long = omega (arith, few, kept.1.0) }, record { times_long = omega (arith, few, kept.1.1.0); values_long = omega (arith, few, kept.1.1.1.0) })
@@ -60,7 +60,7 @@ sub-last : tie.Need-overflow-sub-last
 sub-last c = search rules
 
 mul-last-time : tie.Need-overflow-mul-last-time
-mul-last-time c = let few = c.before.before.before.before.before.before.before.before.before.before.before.before.before.before.before.before.before.before.before.before.before.before.requires.few in record { fits = omega (arith, few) }
+mul-last-time c = let few = c.before.before.before.before.before.before.before.before.before.before.before.before.before.before.before.before.before.before.before.before.before.before.requires.tried.few in record { fits = omega (arith, few) }
 
 shared-slice-read-last-time : tie.Need-shared-slice-read-last-time
 shared-slice-read-last-time c = search rules
@@ -93,7 +93,7 @@ list-corners-requires c κs =
     let z = polygon_at tried s.requires.two start.ensures found.ensures in
     let line = line_at tried s.requires.two start.ensures found.ensures in
     let few-points = points_few tried.lists_accepted start.result n (two_at s start.ensures) (le_refl n) line z in
-    let few = s.requires.few in
+    let few = tried.few in
     let room = s.requires.room in (
       z.shape,
       proper_corners tried.lists_accepted start.result n (two_at s start.ensures) (le_refl n) line z,

@@ -1,10 +1,10 @@
--- `latest::latest` meets its contract: the trial answers with the number of the first row that holds; where none does, fewer than two ranges are open, and of more the trend is found among the last of them.
+-- `latest::latest` meets its contract: the trial answers with the number of the first row that holds; where none does, fewer than two ranges are open, and of more the trend is found.
 -- Assumes nothing.
 use Prim.Native.Nat.{ℕ, ◌≤◌, ◌<◌}
 use mathlib.Core.Path.{◌≡◌, sym, ap, ◌∙◌, subst}
 use mathlib.Core.List.{List}
 use native.Mathlib.Omega.{arith}
-use lib.ListN.{length, length-drop}
+use lib.ListN.{length}
 use mir.Syntax.{w32}
 use mir.Val.{to_z, of_z}
 use mir.Facts.{to_z-of_z}
@@ -16,12 +16,10 @@ use Rattle.definitions.specs.Trial.{latest_rows}
 use Rattle.trial_laws.specs.Rows.{refusal-zero, refusal-above}
 use Rattle.trial_laws.specs.ListTrial.{trial_rows, bad_service, trial_numbered}
 use Rattle.trial_laws.specs.Accepted.{service-good, trial_zero}
-use Rattle.segment_runs.specs.LimitedRuns.{LimitedStart, limited-two}
 use Rattle.drift.specs.CornersPromise.{three_lengths}
 use Rattle.drift.specs.CornersPromiseLaws.{room-tested}
 use Rattle.drift.specs.Filling.{Tried}
-use Rattle.drift_laws.specs.LastRanges.{last_entries, part_from, part-is, last-accepted}
-use Rattle.latest.specs.FoundTrends.{Ready, TrendGiven, trend_of-last}
+use Rattle.latest.specs.FoundTrends.{Ready, TrendGiven}
 use Rattle.latest.specs.LatestPromiseLaws.{rows_are, promise_refused, promise_open, promise_trend}
 use Rattle.latest.proofs.latest.Statement.{statement}
 use Rattle.latest.proofs.latest.Tie as tie
@@ -82,18 +80,10 @@ module _ (c : tie.After-try-lists) where
       let (long, inside, lists_accepted, few) = (trial_zero _ _ (lists entry)).0 (number_is ∙ e) in
       record { good = (service-good (service entry)).0 (sym outside-is ∙ inside); lists_accepted = lists_accepted; few = few }
 
-  -- the last ranges, as many as one segment can have
-  ready : number ≡ 0 → 2 ≤ length (lists entry).times → (k : ℕ) → LimitedStart (length (lists entry).times) k → Ready (service entry) (last_entries k (lists entry)) entry.args.ps.now entry.args.qs.now entry.args.ds.now
-  ready e two k l =
-      let room = ((trial_zero _ _ (lists entry)).0 (number_is ∙ e)).0 in
-      let z = tried e in
-      let long = length-drop k (lists entry).times in
-      record {
-        tried = record { good = z.good; lists_accepted = last-accepted z.lists_accepted k; few = omega (arith, z.few, long) };
-        two = omega (arith, limited-two l two, long);
-        few = omega (arith, l.by_limit, long);
-        room = room-tested entry.args.ps.now entry.args.qs.now entry.args.ds.now (sym c.before.before.three-short.ensures ∙ room);
-      }
+  ready : number ≡ 0 → 2 ≤ length (lists entry).times → Ready (service entry) (lists entry) entry.args.ps.now entry.args.qs.now entry.args.ds.now
+  ready e two =
+      let long = ((trial_zero _ _ (lists entry)).0 (number_is ∙ e)).0 in
+      record { tried = tried e; two = two; room = room-tested entry.args.ps.now entry.args.qs.now entry.args.ds.now (sym c.before.before.three-short.ensures ∙ long) }
 
 returns : tie.Need-returns
 returns c =
@@ -107,52 +97,11 @@ returns-2 c =
     let zero = c.before.if1.false in
     promise_open (service s) (lists s) s.args.ps.now s.args.qs.now s.args.ds.now (none-holds t zero) (tried t zero).lists_accepted c.if2.true
 
-limited-start-requires : tie.Need-limited-start-requires
-limited-start-requires c κs = tt
-
-mul-find-trend : tie.Need-overflow-mul-find-trend
-mul-find-trend c = let t = c.before.before.before in record { fits = omega (arith, c.limited-start.ensures.within, (tried t c.before.before.if1.false).few) }
-
-sub-find-trend : tie.Need-overflow-sub-find-trend
-sub-find-trend c = c.limited-start.ensures.within
-
-part-find-trend-start : tie.Need-slice-bounds-find-trend-start
-part-find-trend-start c = search rules
-
-part-find-trend-end : tie.Need-slice-bounds-find-trend-end
-part-find-trend-end c = search rules
-
-mul-find-trend-2 : tie.Need-overflow-mul-find-trend-2
-mul-find-trend-2 c = let t = c.before.before.before.before in record { fits = omega (arith, c.before.limited-start.ensures.within, (tried t c.before.before.before.if1.false).few) }
-
-sub-find-trend-2 : tie.Need-overflow-sub-find-trend-2
-sub-find-trend-2 c = let t = c.before.before.before.before in omega (arith, c.before.limited-start.ensures.within, (tried t c.before.before.before.if1.false).lists_accepted.same.lows_long)
-
-part-find-trend-start-2 : tie.Need-slice-bounds-find-trend-start-2
-part-find-trend-start-2 c = sub-find-trend-2 c
-
-part-find-trend-end-2 : tie.Need-slice-bounds-find-trend-end-2
-part-find-trend-end-2 c = search rules
-
-mul-find-trend-3 : tie.Need-overflow-mul-find-trend-3
-mul-find-trend-3 c = let t = c.before.before.before.before.before in record { fits = omega (arith, c.before.before.limited-start.ensures.within, (tried t c.before.before.before.before.if1.false).few) }
-
-sub-find-trend-3 : tie.Need-overflow-sub-find-trend-3
-sub-find-trend-3 c = let t = c.before.before.before.before.before in omega (arith, c.before.before.limited-start.ensures.within, (tried t c.before.before.before.before.if1.false).lists_accepted.same.highs_long)
-
-part-find-trend-start-3 : tie.Need-slice-bounds-find-trend-start-3
-part-find-trend-start-3 c = sub-find-trend-3 c
-
-part-find-trend-end-3 : tie.Need-slice-bounds-find-trend-end-3
-part-find-trend-end-3 c = search rules
-
 find-trend-requires : tie.Need-find-trend-requires
 find-trend-requires c κs =
-    let t = c.before.before.before.before.before.before.before.before.before in
+    let t = c.before.before.before.before.before in
     let s = entry t in
-    let k = c.before.before.before.before.before.before.limited-start.result in
-    subst (λ ls. Ready (record { level = to_z w32 (of_z w32 s.args.level); direction = (service s).direction; step = (service s).step }) ls s.args.ps.now s.args.qs.now s.args.ds.now) (sym (part-is k (lists s)))
-    (subst (λ l. Ready (record { level = l; direction = (service s).direction; step = (service s).step }) (last_entries k (lists s)) s.args.ps.now s.args.qs.now s.args.ds.now) (sym (level-read s)) (ready t c.before.before.before.before.before.before.before.before.if1.false c.before.before.before.before.before.before.before.if2.false k c.before.before.before.before.before.before.limited-start.ensures))
+    subst (λ l. Ready (record { level = l; direction = (service s).direction; step = (service s).step }) (lists s) s.args.ps.now s.args.qs.now s.args.ds.now) (sym (level-read s)) (ready t c.before.before.before.before.if1.false c.before.before.before.if2.false)
 
 same_length : tie.Need-same-length
 same_length c = search rules
@@ -165,15 +114,11 @@ same-length-3 c = search rules
 
 returns-3 : tie.Need-returns-3
 returns-3 c =
-    let t = c.before.before.before.before.before.before.before.before.before.before.before.before.before in
+    let t = c.before.before.before.before.before.before.before.before.before in
     let s = entry t in
-    let zero = c.before.before.before.before.before.before.before.before.before.before.before.before.if1.false in
-    let k = c.before.before.before.before.before.before.before.before.before.before.limited-start.result in
     let found = c.before.before.before.find-trend in
-    promise_trend (service s) (lists s) s.args.ps.now s.args.qs.now s.args.ds.now (none-holds t zero)
-    (trend_of-last (tried t zero).lists_accepted k c.before.before.before.before.before.before.before.before.before.before.limited-start.ensures
-    (subst (λ ls. TrendGiven (service s) ls s.args.ps.now s.args.qs.now s.args.ds.now found.new.1.1.1.1.0 found.new.1.1.1.1.1.0 found.new.1.1.1.1.1.1.0 found.result) (part-is k (lists s))
-    (subst (λ l. TrendGiven (record { level = l; direction = (service s).direction; step = (service s).step }) (part_from k (lists s)) s.args.ps.now s.args.qs.now s.args.ds.now found.new.1.1.1.1.0 found.new.1.1.1.1.1.0 found.new.1.1.1.1.1.1.0 found.result) (level-read s) found.ensures)))
+    promise_trend (service s) (lists s) s.args.ps.now s.args.qs.now s.args.ds.now (none-holds t c.before.before.before.before.before.before.before.before.if1.false)
+    (subst (λ l. TrendGiven (record { level = l; direction = (service s).direction; step = (service s).step }) (lists s) s.args.ps.now s.args.qs.now s.args.ds.now found.new.1.1.1.1.0 found.new.1.1.1.1.1.0 found.new.1.1.1.1.1.1.0 found.result) (level-read s) found.ensures)
 
 pub latest-spec : {M : Type 1} → statement M
 latest-spec =
@@ -184,19 +129,6 @@ latest-spec =
     try-lists-requires
     returns
     returns-2
-    limited-start-requires
-    mul-find-trend
-    sub-find-trend
-    part-find-trend-start
-    part-find-trend-end
-    mul-find-trend-2
-    sub-find-trend-2
-    part-find-trend-start-2
-    part-find-trend-end-2
-    mul-find-trend-3
-    sub-find-trend-3
-    part-find-trend-start-3
-    part-find-trend-end-3
     find-trend-requires
     same_length
     same-length-2

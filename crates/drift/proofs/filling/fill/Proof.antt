@@ -9,7 +9,7 @@ use lib.ListN.{length, drop, drop_of_length-le}
 use mir.Syntax.{w64}
 use mir.Val.{Fits}
 use Rattle.definitions.specs.Services.{Service}
-use Rattle.definitions.specs.Spans.{segment_limit}
+use Rattle.definitions.specs.Spans.{most_ranges}
 use Rattle.definitions.specs.Ranges.{Lists, ranges_of}
 use Rattle.definitions.specs.Splits.{cut}
 use Rattle.definitions.specs.Segments.{segments}
@@ -23,7 +23,7 @@ use Rattle.drift.proofs.filling.fill.Tie as tie
 
 abbrev invariant-loop : tie.invariant-loop
 invariant-loop v times lows highs first-times₀ last-times₀ counts₀ slow-ps₀ slow-qs₀ slow-ds₀ fast-ps₀ fast-qs₀ fast-ds₀ somes₀ alls₀ up-times₀ up-values₀ down-times₀ down-values₀ start₀ count₀ first_times_is last_times_is counts slow_ps_is slow_qs_is slow_ds_is fast_ps_is fast_qs_is fast_ds_is somes alls up-times up-values down-times down-values start count =
-    Turn (service_of v) (record { times = times; lows = lows; highs = highs }) (columns first-times₀ last-times₀ counts₀ slow-ps₀ slow-qs₀ slow-ds₀ fast-ps₀ fast-qs₀ fast-ds₀ somes₀ alls₀) (columns first_times_is last_times_is counts slow_ps_is slow_qs_is slow_ds_is fast_ps_is fast_qs_is fast_ds_is somes alls) start count × (length up-times ≡ segment_limit) × (length up-values ≡ segment_limit) × (length down-times ≡ segment_limit) × (length down-values ≡ segment_limit)
+    Turn (service_of v) (record { times = times; lows = lows; highs = highs }) (columns first-times₀ last-times₀ counts₀ slow-ps₀ slow-qs₀ slow-ds₀ fast-ps₀ fast-qs₀ fast-ds₀ somes₀ alls₀) (columns first_times_is last_times_is counts slow_ps_is slow_qs_is slow_ds_is fast_ps_is fast_qs_is fast_ds_is somes alls) start count × (length up-times ≡ most_ranges) × (length up-values ≡ most_ranges) × (length down-times ≡ most_ranges) × (length down-values ≡ most_ranges)
 
 abbrev decreases-loop : tie.decreases-loop
 decreases-loop v times lows highs first-times₀ last-times₀ counts₀ slow-ps₀ slow-qs₀ slow-ds₀ fast-ps₀ fast-qs₀ fast-ds₀ somes₀ alls₀ up-times₀ up-values₀ down-times₀ down-values₀ start₀ count₀ first_times_is last_times_is counts slow_ps_is slow_qs_is slow_ds_is fast_ps_is fast_qs_is fast_ds_is somes alls up-times up-values down-times down-values start count =
@@ -64,11 +64,12 @@ slice-aggregate-segment-from-4 c = sym c.before.before.before.before.before.loop
 segment-from-requires : tie.Need-segment-from-requires invariant-loop decreases-loop
 segment-from-requires c κs =
     let s = c.before.before.before.before.before.before.before.before.before.before.before.before in
+    let few = s.requires.tried.few in
     let kept = c.before.before.before.before.before.loop.invariant in
     record {
       tried = (ready s).tried;
-      up_room = record { times_long = omega (arith, kept.1); values_long = omega (arith, kept.2) };
-      down_room = record { times_long = omega (arith, kept.3); values_long = omega (arith, kept.4) };
+      up_room = record { times_long = omega (arith, few, kept.1); values_long = omega (arith, few, kept.2) };
+      down_room = record { times_long = omega (arith, few, kept.3); values_long = omega (arith, few, kept.4) };
       inside = c.before.before.before.before.loop-test.true;
     }
 

@@ -2,53 +2,48 @@
 -- Assumes nothing.
 use mathlib.Core.Path.{sym, subst}
 use Prim.Native.Nat.{◌-◌}
+use native.Mathlib.Nat.{le_refl}
 use native.Mathlib.Omega.{arith}
-use lib.ListN.{length}
 use Rattle.definitions.specs.Ranges.{Lists}
 use Rattle.trial_laws.specs.Accepted.{AcceptedLists}
 use Rattle.values.specs.Meanings.{service_of, outlook_of, segment_of}
-use Rattle.segment_runs.specs.LimitedRuns.{LimitedEnd, limited-after}
 use Rattle.drift.specs.Filling.{NextSegment}
 use Rattle.drift.specs.NextSegments.{found_at, next_open, next_lines}
 use Rattle.drift.proofs.filling.segment_from.Statement.{statement}
 use Rattle.drift.proofs.filling.segment_from.Tie as tie
 
-limited-end-requires : tie.Need-limited-end-requires
-limited-end-requires c κs = omega (arith, c.before.before.before.requires.inside)
-
 run-from-requires : tie.Need-run-from-requires
 run-from-requires c κs =
-    let P = c.before.before.before.before.before.before.before.before.requires in
-    let l = c.before.before.before.before.limited-end.ensures in
+    let P = c.before.before.before.before.before.before.before.requires in
     let U = P.up_room in
     let D = P.down_room in (
       P.tried.lists_accepted,
-      limited-after P.inside l,
-      l.by_count,
-      record { times_long = omega (arith, l.by_limit, U.times_long); values_long = omega (arith, l.by_limit, U.values_long) },
-      record { times_long = omega (arith, l.by_limit, D.times_long); values_long = omega (arith, l.by_limit, D.values_long) },
+      omega (arith, P.inside),
+      le_refl _,
+      record { times_long = omega (arith, U.times_long); values_long = omega (arith, U.values_long) },
+      record { times_long = omega (arith, D.times_long); values_long = omega (arith, D.values_long) },
     )
 
 mul-first-time : tie.Need-overflow-mul-first-time
-mul-first-time c = record { fits = omega (arith, c.before.before.before.before.before.before.before.before.before.before.before.before.before.before.before.requires.tried.few, c.before.before.before.before.before.before.before.before.before.before.before.before.before.before.before.requires.inside) }
+mul-first-time c = record { fits = omega (arith, c.before.before.before.before.before.before.before.before.before.before.before.before.before.before.requires.tried.few, c.before.before.before.before.before.before.before.before.before.before.before.before.before.before.requires.inside) }
 
 shared-slice-read-first-time : tie.Need-shared-slice-read-first-time
-shared-slice-read-first-time c = c.before.before.before.before.before.before.before.before.before.before.before.before.before.before.before.before.requires.inside
+shared-slice-read-first-time c = c.before.before.before.before.before.before.before.before.before.before.before.before.before.before.before.requires.inside
 
 sub-last-time : tie.Need-overflow-sub-last-time
 sub-last-time c = omega (arith, c.before.before.before.before.before.before.before.run-from.ensures.begins)
 
 mul-last-time : tie.Need-overflow-mul-last-time
-mul-last-time c = record { fits = omega (arith, c.before.before.before.before.before.before.before.run-from.ensures.within, c.before.before.before.before.before.before.before.before.before.before.before.before.limited-end.ensures.by_count, c.before.before.before.before.before.before.before.before.before.before.before.before.before.before.before.before.requires.tried.few) }
+mul-last-time c = record { fits = omega (arith, c.before.before.before.before.before.before.before.run-from.ensures.within, c.before.before.before.before.before.before.before.before.before.before.before.before.before.before.before.requires.tried.few) }
 
 shared-slice-read-last-time : tie.Need-shared-slice-read-last-time
-shared-slice-read-last-time c = omega (arith, c.before.before.before.before.before.before.before.before.run-from.ensures.begins, c.before.before.before.before.before.before.before.before.run-from.ensures.within, c.before.before.before.before.before.before.before.before.before.before.before.before.before.limited-end.ensures.by_count)
+shared-slice-read-last-time c = omega (arith, c.before.before.before.before.before.before.before.before.run-from.ensures.begins, c.before.before.before.before.before.before.before.before.run-from.ensures.within)
 
 sub-count : tie.Need-overflow-sub-count
 sub-count c = omega (arith, c.before.before.before.before.before.before.before.before.run-from.ensures.begins)
 
 cast-count : tie.Need-overflow-cast-count
-cast-count c = omega (arith, c.before.before.before.before.before.before.before.before.run-from.ensures.within, c.before.before.before.before.before.before.before.before.before.before.before.before.before.limited-end.ensures.by_count, c.before.before.before.before.before.before.before.before.before.before.before.before.before.before.before.before.before.requires.tried.few)
+cast-count c = omega (arith, c.before.before.before.before.before.before.before.before.run-from.ensures.within, c.before.before.before.before.before.before.before.before.before.before.before.before.before.before.before.before.requires.tried.few)
 
 same_length : tie.Need-same-length
 same_length c = c.before.before.before.before.before.before.before.before.before.run-from.auto.1.1.1.0
@@ -65,7 +60,7 @@ same-length-4 c = c.before.before.before.before.before.before.before.before.befo
 -- ---- where the run is known
 
 abbrev entry : tie.After-run-from → tie.Start
-entry c = c.before.before.before.before.before.before.before.before.before
+entry c = c.before.before.before.before.before.before.before.before
 
 abbrev lists : tie.Start → Lists
 lists s = record { times = s.args.times.now; lows = s.args.lows.now; highs = s.args.highs.now }
@@ -73,15 +68,12 @@ lists s = record { times = s.args.times.now; lows = s.args.lows.now; highs = s.a
 lists-good : (s : tie.Start) → AcceptedLists (lists s)
 lists-good s = s.requires.tried.lists_accepted
 
-limit : (c : tie.After-run-from) → LimitedEnd (entry c).args.start (length (lists (entry c)).times) c.before.before.before.before.before.limited-end.result
-limit c = c.before.before.before.before.before.limited-end.ensures
-
 returns : tie.Need-returns
 unfolding segment_of outlook_of
 returns c =
     let r = c.before.before.before.before.before.before.before.before.before in
     let s = entry r in
-    next_open (lists-good s) (limit r) r.run-from.ensures (service_of s.args.v) c.if1.true
+    next_open (lists-good s) r.run-from.ensures (service_of s.args.v) c.if1.true
 
 outlook-of-requires : tie.Need-outlook-of-requires
 outlook-of-requires c κs =
@@ -112,13 +104,12 @@ returns-2 c =
     let two = c.before.before.before.before.if1.false in
     let look = c.outlook-of.ensures in
     subst (λ o. NextSegment (service_of s.args.v) ls s.args.start (found_at ls s.args.start e o)) (sym look)
-    (next_lines (lists-good s) (limit r) r.run-from.ensures (service_of s.args.v) s.pre.tried.good (omega arith))
+    (next_lines (lists-good s) r.run-from.ensures (service_of s.args.v) s.pre.tried.good (omega arith))
 
 pub segment-from-spec : {M : Type 1} → statement M
 segment-from-spec =
     tie.close
     (tie.spec
-    limited-end-requires
     run-from-requires
     mul-first-time
     shared-slice-read-first-time

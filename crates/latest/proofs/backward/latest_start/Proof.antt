@@ -68,7 +68,7 @@ returns : tie.Need-returns
 unfolding first_entries
 returns c =
     let s = c.before.before.before.before.before.before.before.before.before.before.before.before.before.before.before.before.before.before.before.before.before.before.before.before.before in
-    start_found s.requires.0 s.requires.2 c.before.before.before.before.before.before.before.before.before.before.before.before.before.before.before.before.before.before.read-backward.ensures c.before.before.before.before.before.before.before.run-from.ensures
+    start_found s.requires.0 c.before.before.before.before.before.before.before.before.before.before.before.before.before.before.before.before.before.before.read-backward.ensures c.before.before.before.before.before.before.before.run-from.ensures
 
 pub latest-start-spec : {M : Type 1} → statement M
 latest-start-spec =

@@ -1,14 +1,12 @@
-// The segment then running after the first k ranges: from segment to segment, until one goes up to range k.
+// The segment then running after the first k ranges: from run to run, until one goes up to range k.
 ghost use Rattle.std.specs.Prelude.{◌<◌, ◌≤◌, length};
-ghost use Rattle.definitions.specs.Spans.{segment_limit};
 ghost use Rattle.trial_laws.specs.Accepted.{AcceptedLists};
 ghost use Rattle.drift_laws.specs.RangeEnds.{lent};
 ghost use Rattle.drift_laws.specs.ChainParts.{chain, Long};
-ghost use Rattle.segment_runs.specs.LastRuns.{LastRun};
+ghost use Rattle.fit.specs.LastRuns.{LastRun};
 
-use crate::limit::limited_end;
-use fit::polygon::Polygon;
-use fit::run::run_from;
+use crate::polygon::Polygon;
+use crate::run::run_from;
 
 // The number of its first range, and its polygon; one range has none, and 0 stands for each of its numbers.
 #[derive(Drop)]
@@ -27,12 +25,11 @@ pub fn last_run(
     down_values: &mut [i32],
     k: usize,
 ) -> Found
-    requires { (AcceptedLists (lent times.now highs.now lows.now)) × (0 < k) × (k ≤ length times.now) × (Long segment_limit (chain up_times.old up_values.old)) × (Long segment_limit (chain down_times.old down_values.old)) }
+    requires { (AcceptedLists (lent times.now highs.now lows.now)) × (0 < k) × (k ≤ length times.now) × (Long k (chain up_times.old up_values.old)) × (Long k (chain down_times.old down_values.old)) }
     ensures { LastRun (lent times.now highs.now lows.now) k (chain up_times.new up_values.new) (chain down_times.new down_values.new) result }
 {
     let mut start = 0;
     loop {
-        let most = limited_end(start, k);
         let reach = run_from(
             times,
             highs,
@@ -42,7 +39,7 @@ pub fn last_run(
             down_times,
             down_values,
             start,
-            most,
+            k,
         );
         let end = reach.end;
         if k <= end {

@@ -1,2 +1,0 @@
-pub mod LimitedRuns
-pub mod LastRuns
