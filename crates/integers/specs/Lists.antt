@@ -89,6 +89,7 @@ module _ {A : Type 0} where
 
   -- ---- every entry
   pub All_in : {P : A → Type 0} {x : A} {xs : List A} → All P xs → In x xs → P x
+  All_in {P = P} nil x4 = elim x4 [ ]
   All_in {P} (cons h hs) (here e) = subst P (sym e) h
   All_in (cons h hs) (there i) = All_in hs i
 

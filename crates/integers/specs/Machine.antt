@@ -79,6 +79,7 @@ bound (b ∷ bs) here = b
 bound (b ∷ bs) (there m) = bound bs m
 
 bound-ok : {z : ℤ} {ρ : List ℤ} {bs : List Bound} → Env ρ bs → (m : Member z ρ) → Bounded (bound bs m) z
+bound-ok {z = z} end m = elim m [ ]
 bound-ok (h ◂ e) here = h
 bound-ok (h ◂ e) (there m) = bound-ok e m
 

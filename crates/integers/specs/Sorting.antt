@@ -220,7 +220,7 @@ module _ {A : Type 0} where
     rising_unique {xs = x ∷ xs} {ys = []} p r s m = absurd (not-in-nil (m.into x (here refl)))
     rising_unique {xs = x ∷ xs} {ys = y ∷ ys} p r s m =
         ap₂ (λ z zs. z ∷ zs) e
-        (rising_unique (All-tail p) (rising_tail before r) (rising_tail before s)
+        (rising_unique {xs = xs} {ys = ys} (All-tail p) (rising_tail before r) (rising_tail before s)
         (record { into = later_in (All-head p) e r m.into; back = later_in (subst Ok e (All-head p)) (sym e) s m.back }))
       where
         e : x ≡ y
@@ -254,6 +254,7 @@ module _ {A : Type 0} where
 
     pub in_sorted : {z : A} {xs : List A} → All Ok xs → In z xs → In z (sorted before xs)
     unfolding sorted
+    in_sorted {z = z} nil x3 = elim x3 [ ]
     in_sorted (cons {x} p ps) (here e) = Memᴰ.cast e (in_insert_new x p (All_sorted before ps))
     in_sorted (cons {x} p ps) (there i) = in_insert_old before x (in_sorted ps i)
 
