@@ -33,6 +33,7 @@ in_from r s rs u v a b (there {x = q} {xs = qs} i) = in_append_right (through_en
 pub candidate : (rs : List Range) → Ordered rs → (r s : Range) → In r rs → In s rs → r.time < s.time → (u v : ℤ) → IsEnd r u → IsEnd s v
     → In (through r.time u s.time v) (candidates rs)
 unfolding candidates
+candidate [] o r s i j lt u v a b = elim i [ ]
 candidate (q ∷ qs) o r s i j lt u v a b = by (in-cons-inv i) (in-cons-inv j) (λ k m. candidate qs o.2 r s k m lt u v a b)
   where
     never : (m n : ℕ) → m < n → n < m → ⊥

@@ -65,7 +65,7 @@ rd z = to_z w64 (of_z w64 z)
 
 module _ {x : ℤ} (h : Within most_value x) where
   pub narrow_is : to_z w32 (of_z w32 x) ≡ x
-  narrow_is = to_z-of_z (fits h tt)
+  narrow_is = to_z-of_z {w = w32} (fits h tt)
 
   pub narrow_in : Within most_value (to_z w32 (of_z w32 x))
   narrow_in = subst (Within most_value) (sym narrow_is) h
@@ -74,7 +74,7 @@ module _ {x : ℤ} (h : Within most_value x) where
   value_mirrored e = negated-is w64 narrow_in tt ∙ ap neg_ℤ narrow_is ∙ ap (λ f. in_mirror f x) (sym e)
 
   pub value_plain : {flip : Bool} → flip ≡ false → rd (to_z w32 (of_z w32 x)) ≡ in_mirror flip x
-  value_plain e = to_z-of_z (fits narrow_in tt) ∙ narrow_is ∙ ap (λ f. in_mirror f x) (sym e)
+  value_plain e = to_z-of_z {w = w64} (fits narrow_in tt) ∙ narrow_is ∙ ap (λ f. in_mirror f x) (sym e)
 
 pub mirror_in : (flip : Bool) {u : ℤ} → Within most_value u → Within most_value (in_mirror flip u)
 mirror_in true h = in_neg h

@@ -3,14 +3,7 @@ use borrow.Author.Rules.{rules}
 use Rattle.integers.specs.Quotes.{quotes}
 use Rattle.integers.specs.Bounds.{unsigned-between}
 use Rattle.integers.specs.Machine.{◌◂◌, end, machine_value!, reads}
-use Rattle.arithmetic_examples.proofs.time_of.Statement.{statement}
-use Rattle.arithmetic_examples.proofs.time_of.Tie as tie
+use Rattle.arithmetic_examples.proofs.time_of.Goals as goal
 
-cast-result : tie.Need-overflow-cast-result
-cast-result c = search rules
-
-returns : tie.Need-returns
+pub returns : goal.returns
 returns c = machine_value! (unsigned-between c.ranges.t ◂ end) (search reads depth 30) (search quotes depth 30) tt
-
-pub time-of-spec : {M : Type 1} → statement M
-time-of-spec = tie.close (tie.spec cast-result returns)

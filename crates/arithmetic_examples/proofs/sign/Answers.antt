@@ -8,8 +8,7 @@ use Rattle.integers.specs.Parts.{ints}
 use Rattle.integers.specs.Solve.{◌&◌}
 use Rattle.integers.specs.Machine.{◌▸◌, end, machine_linear!, tests}
 use Rattle.arithmetic_examples.specs.Points.{sign_of}
-use Rattle.arithmetic_examples.proofs.sign.Statement.{statement}
-use Rattle.arithmetic_examples.proofs.sign.Tie as tie
+use Rattle.arithmetic_examples.proofs.sign.Goals as goal
 
 zero-sign : (z : ℤ) → z ≡ pos 0 → pos 0 ≡ sign_of z
 zero-sign z e = sym (ap sign_of e)
@@ -23,14 +22,11 @@ positive-sign (pos zero) h = absurd (omega ints)
 positive-sign (pos (suc n)) h = refl
 positive-sign (negsuc n) h = absurd h.lt
 
-returns : tie.Need-returns
-returns c = zero-sign c.before.args.z (machine_linear! (c.before.ranges.z ▸ end) c.if1.true (search tests depth 30) tt (omega arith))
+pub returns-then-z-eq0 : goal.returns-then-z-eq0
+returns-then-z-eq0 c = zero-sign c.args.z (machine_linear! (c.ranges.z ▸ end) c.if-z-eq0.true (search tests depth 30) tt (omega arith))
 
-returns-2 : tie.Need-returns-2
-returns-2 c = negative-sign c.before.before.args.z (machine_linear! (c.before.before.ranges.z ▸ end) c.if2.true (search tests depth 30) tt (omega arith))
+pub returns-then-z-lt0 : goal.returns-then-z-lt0
+returns-then-z-lt0 c = negative-sign c.args.z (machine_linear! (c.ranges.z ▸ end) c.if-z-lt0.true (search tests depth 30) tt (omega arith))
 
-returns-3 : tie.Need-returns-3
-returns-3 c = positive-sign c.before.before.args.z (machine_linear! (c.before.before.ranges.z ▸ end) (c.before.if1.false & c.if2.false) (search tests depth 30) tt (omega arith))
-
-pub sign-spec : {M : Type 1} → statement M
-sign-spec = tie.close (tie.spec returns returns-2 returns-3)
+pub returns-else-z-lt0 : goal.returns-else-z-lt0
+returns-else-z-lt0 c = positive-sign c.args.z (machine_linear! (c.ranges.z ▸ end) (c.if-z-eq0.false & c.if-z-lt0.false) (search tests depth 30) tt (omega arith))

@@ -2,14 +2,10 @@
 use Rattle.integers.specs.Quotes.{quotes}
 use Rattle.integers.specs.Bounds.{nonneg-signed}
 use Rattle.integers.specs.Machine.{◌◂◌, end, no_loss!, machine_value!, reads, casts}
-use Rattle.arithmetic_examples.proofs.size_of.Statement.{statement}
-use Rattle.arithmetic_examples.proofs.size_of.Tie as tie
+use Rattle.arithmetic_examples.proofs.size_of.Goals as goal
 
-cast-result : tie.Need-overflow-cast-result
-cast-result c = no_loss! (nonneg-signed c.ranges.z c.requires ◂ end) (search casts depth 30) tt
+pub overflow_cast-result : goal.overflow_cast-result
+overflow_cast-result c = no_loss! (nonneg-signed c.ranges.z c.requires ◂ end) (search casts depth 30) tt
 
-returns : tie.Need-returns
+pub returns : goal.returns
 returns c = machine_value! (nonneg-signed c.ranges.z c.requires ◂ end) (search reads depth 30) (search quotes depth 30) tt
-
-pub size-of-spec : {M : Type 1} → statement M
-size-of-spec = tie.close (tie.spec cast-result returns)

@@ -1,4 +1,5 @@
 -- `arithmetic_examples::floor_div` meets its contract: n = q d + r with −d < r < d, and q is one less where r is negative. The quotient and the remainder are listed in the environment as integers of their own. Assumes nothing.
+-- 2^62
 use mathlib.Core.List.{[], ◌∷◌}
 use native.Mathlib.Omega.{arith}
 use Prim.Native.Nat.{ℕ}
@@ -10,10 +11,8 @@ use Rattle.integers.specs.Bounds.{Within, fits}
 use Rattle.integers.specs.Solve.{◌&◌}
 use Rattle.integers.specs.Division.{quot-rem, rem_below, rem-above, in_quot, in_rem, bits_pos}
 use Rattle.integers.specs.Machine.{read, Env, ◌▹◌, ◌▸◌, end, upto, signed, no_overflow!, machine_bound!, machine_linear!, reads, tests}
-use Rattle.arithmetic_examples.proofs.floor_div.Statement.{statement}
-use Rattle.arithmetic_examples.proofs.floor_div.Tie as tie
+use Rattle.arithmetic_examples.proofs.floor_div.Goals as goal
 
--- 2^62
 abbrev most : ℕ
 most = 4611686018427387904
 
@@ -27,24 +26,21 @@ module _ {n d : ℤ} (hn : Within most n) (hd : SFits w64 d) where
   positive : pos 0 <ℤ d → pos 0 <ℤ read w64 d
   positive h = machine_linear! env h (search tests depth 30) tt (omega arith)
 
-div-q : tie.Need-nonzero-div-q
-div-q c = (bits_pos w64 c.requires.1, fits (in_quot (read w64 c.args.d) (read-within c.requires.0 c.ranges.d)) tt)
+pub nonzero_div-q : goal.nonzero_div-q
+nonzero_div-q c = (bits_pos w64 c.requires.1, fits (in_quot (read w64 c.args.d) (read-within c.requires.0 c.ranges.d)) tt)
 
-rem-r : tie.Need-nonzero-rem-r
-rem-r c = div-q c
+pub nonzero_rem-r : goal.nonzero_rem-r
+nonzero_rem-r c = nonzero_div-q c
 
-sub-result : tie.Need-overflow-sub-result
-sub-result c = no_overflow! (env c.before.requires.0 c.before.ranges.d) (search reads depth 30) tt
+pub overflow_sub-result : goal.overflow_sub-result
+overflow_sub-result c = no_overflow! (env c.requires.0 c.ranges.d) (search reads depth 30) tt
 
-returns : tie.Need-returns
-returns c =
-    let s = c.before in let n = read w64 s.args.n in let d = read w64 s.args.d in let p = positive s.requires.0 s.ranges.d s.requires.1 in
-    machine_linear! (env s.requires.0 s.ranges.d) (quot-rem n d p & rem-above n d p & c.if1.true) (search tests depth 30) tt (omega arith)
+pub returns-then-r-lt0 : goal.returns-then-r-lt0
+returns-then-r-lt0 c =
+    let n = read w64 c.args.n in let d = read w64 c.args.d in let p = positive c.requires.0 c.ranges.d c.requires.1 in
+    machine_linear! (env c.requires.0 c.ranges.d) (quot-rem n d p & rem-above n d p & c.if-r-lt0.true) (search tests depth 30) tt (omega arith)
 
-returns-2 : tie.Need-returns-2
-returns-2 c =
-    let s = c.before in let n = read w64 s.args.n in let d = read w64 s.args.d in let p = positive s.requires.0 s.ranges.d s.requires.1 in
-    machine_linear! (env s.requires.0 s.ranges.d) (quot-rem n d p & rem_below n d p & c.if1.false) (search tests depth 30) tt (omega arith)
-
-pub floor-div-spec : {M : Type 1} → statement M
-floor-div-spec = tie.close (tie.spec div-q rem-r sub-result returns returns-2)
+pub returns-else-r-lt0 : goal.returns-else-r-lt0
+returns-else-r-lt0 c =
+    let n = read w64 c.args.n in let d = read w64 c.args.d in let p = positive c.requires.0 c.ranges.d c.requires.1 in
+    machine_linear! (env c.requires.0 c.ranges.d) (quot-rem n d p & rem_below n d p & c.if-r-lt0.false) (search tests depth 30) tt (omega arith)

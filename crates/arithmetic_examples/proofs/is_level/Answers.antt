@@ -5,13 +5,9 @@ use mir.Val.{SFits}
 use borrow.Author.Rules.{rules}
 use Rattle.integers.specs.Solve.{no_facts}
 use Rattle.integers.specs.Machine.{◌▸◌, end, machine_linear!, tests}
-use Rattle.arithmetic_examples.proofs.is_level.Statement.{statement}
-use Rattle.arithmetic_examples.proofs.is_level.Tie as tie
+use Rattle.arithmetic_examples.proofs.is_level.Goals as goal
 
-returns : tie.Need-returns
+pub returns : goal.returns
 returns c =
-    let f : SFits w64 c.before.before.args.l.p = search rules in
+    let f : SFits w64 c.args.l.p = search rules in
     machine_linear! (f ▸ end) no_facts (search tests depth 30) tt (omega arith)
-
-pub is-level-spec : {M : Type 1} → statement M
-is-level-spec = tie.close (tie.spec returns)
