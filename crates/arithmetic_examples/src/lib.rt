@@ -6,7 +6,7 @@ ghost use Rattle.integers.specs.Tests.{eq_z};
 ghost use Rattle.arithmetic_examples.specs.Points.{Value, Time, Points, Small, line_through, scaled, side_of, less_steep, fits_range, sign_of};
 
 // A line: d times its value at time t is p · t + q.
-#[derive(Drop)]
+#[derive(Clone, Copy)]
 pub struct Line {
     pub p: i64,
     pub q: i64,
@@ -14,7 +14,7 @@ pub struct Line {
 }
 
 // Where a line is, seen from a point.
-#[derive(Drop)]
+#[derive(Clone, Copy)]
 pub enum Side {
     Below,
     At,

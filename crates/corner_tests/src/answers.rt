@@ -6,7 +6,7 @@ use testing::telling::{mixed_signed, number, say, signed_number, tell_kept};
 use values::Line;
 
 // What was seen of the slices so far.
-#[derive(Drop)]
+#[derive(Clone, Copy)]
 struct Seen {
     digest: u64,
     kept: bool,

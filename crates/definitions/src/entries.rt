@@ -2,7 +2,7 @@
 
 // A detector on the panel: its address, and how many ranges it holds.
 #[repr(C)]
-#[derive(Drop)]
+#[derive(Clone, Copy)]
 pub struct Entry {
     pub address: u32,
     pub held: u32,

@@ -9,7 +9,7 @@ use definitions::limits::{CORNER_ROOM, MOST_RANGES, SEGMENT_ROOM};
 use trial::three_short;
 
 // The number of segments, or the number of a refusal.
-#[derive(Drop)]
+#[derive(Clone, Copy)]
 pub enum SegmentAnswer {
     Accepted(usize),
     Refused(u8),
@@ -77,7 +77,7 @@ pub fn segment(
 }
 
 // The number of corners, or that the fit is open, or the number of a refusal.
-#[derive(Drop)]
+#[derive(Clone, Copy)]
 pub enum CornersAnswer {
     Corners(usize),
     Open,

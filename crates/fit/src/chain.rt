@@ -11,7 +11,7 @@ use crate::polygon::Part;
 use values::Line;
 
 // What a new end leaves: the upper chain's end, the lower chain's start, and the lines from these to the new end.
-#[derive(Drop)]
+#[derive(Clone, Copy)]
 pub struct Trimmed {
     pub end: usize,
     pub start: usize,

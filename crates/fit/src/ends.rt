@@ -12,7 +12,7 @@ ghost use Rattle.fit.specs.RangesByValue.{InList, range_of, high_of, low_of, put
 use crate::points::Point;
 
 // A time with a low and a high.
-#[derive(Drop)]
+#[derive(Clone, Copy)]
 pub struct Range {
     pub time: u32,
     pub low: i32,
@@ -20,7 +20,7 @@ pub struct Range {
 }
 
 // An end of a range: its time, and its low or its high.
-#[derive(Drop)]
+#[derive(Clone, Copy)]
 pub struct End {
     pub time: u32,
     pub value: i32,

@@ -9,7 +9,7 @@ use crate::polygon::Polygon;
 use crate::run::run_from;
 
 // The number of its first range, and its polygon; one range has none, and 0 stands for each of its numbers.
-#[derive(Drop)]
+#[derive(Clone, Copy)]
 pub struct Found {
     pub start: usize,
     pub polygon: Polygon,

@@ -9,7 +9,7 @@ ghost use Rattle.fit.specs.LinesOfEnds.{Proper, LineThrough, point_of};
 use values::Line;
 
 // A time and a value.
-#[derive(Drop)]
+#[derive(Clone, Copy)]
 pub struct Point {
     pub t: i64,
     pub u: i64,

@@ -2,14 +2,14 @@
 use values::Line;
 
 // The entries of slices from start up to, not including, end.
-#[derive(Drop)]
+#[derive(Clone, Copy)]
 pub struct Part {
     pub start: usize,
     pub end: usize,
 }
 
 // The chains of high ends and of low ends, the line of least slope and the line of greatest slope.
-#[derive(Drop)]
+#[derive(Clone, Copy)]
 pub struct Polygon {
     pub upper: Part,
     pub lower: Part,

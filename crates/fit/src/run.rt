@@ -16,7 +16,7 @@ use crate::polygon::{Part, Polygon};
 use values::Line;
 
 // The number of the range after a run's last, and the run's polygon; a run of one range has none, and 0 stands for each of its numbers.
-#[derive(Drop)]
+#[derive(Clone, Copy)]
 pub struct Reach {
     pub end: usize,
     pub polygon: Polygon,

@@ -14,7 +14,7 @@ use values::reaching::outlook_of;
 use values::{Outlook, Service};
 
 // The number of ranges of the latest run, its outlook, and the number of its corners.
-#[derive(Drop)]
+#[derive(Clone, Copy)]
 pub struct Trend {
     pub ranges: usize,
     pub outlook: Outlook,
@@ -22,7 +22,7 @@ pub struct Trend {
 }
 
 // The latest trend, or the number of a refusal.
-#[derive(Drop)]
+#[derive(Clone, Copy)]
 pub enum LatestAnswer {
     Accepted(Trend),
     Refused(u8),

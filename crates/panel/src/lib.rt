@@ -14,14 +14,14 @@ use crate::places::admit;
 use definitions::entries::Entry;
 
 // That a range is accepted, or the number of its refusal.
-#[derive(Drop)]
+#[derive(Clone, Copy)]
 pub enum AddAnswer {
     Accepted,
     Refused(u8),
 }
 
 // The number of a head's ranges, or the number of a refusal.
-#[derive(Drop)]
+#[derive(Clone, Copy)]
 pub enum HeadRangesAnswer {
     Accepted(usize),
     Refused(u8),

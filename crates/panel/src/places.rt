@@ -8,7 +8,7 @@ use panel_trial::decisions::{Decision, decide, short_lists};
 
 // What is left to do with the entries: the number that turns a range down, or 0; the place of the entry to be changed, and what it then holds.
 // Where the range is turned down the place is past the last entry, so that no entry changes.
-#[derive(Drop)]
+#[derive(Clone, Copy)]
 pub struct Verdict {
     pub number: u8,
     pub at: usize,

@@ -15,7 +15,7 @@ use trial::{three_short, try_range};
 
 // What becomes of a range: the number that turns it down, or 0; and, where it is accepted, the place of its head's entry,
 // what that entry then holds, and the range's place in the lists.
-#[derive(Drop)]
+#[derive(Clone, Copy)]
 pub struct Decision {
     pub number: u8,
     pub at: usize,

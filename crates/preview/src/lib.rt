@@ -14,7 +14,7 @@ use values::reaching::outlook_of;
 use values::{Outlook, Service};
 
 // The range joins the last segment, or begins one, with the outlook of the last segment then; or the number of a refusal.
-#[derive(Drop)]
+#[derive(Clone, Copy)]
 pub enum PreviewAnswer {
     Joins(Outlook),
     Begins(Outlook),

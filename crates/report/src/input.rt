@@ -6,7 +6,7 @@ use libc::{EINTR, read};
 use os::errno;
 
 // What one read gave: some bytes, and how many; the end of the input; or nothing, because a signal came or it failed.
-#[derive(Drop)]
+#[derive(Clone, Copy)]
 pub enum Got {
     Bytes(usize),
     End,
@@ -43,7 +43,7 @@ fn read_at(fd: i32, buffer: &mut [u8], at: usize) -> Got
 }
 
 // All that was read, by its number of bytes, or that it could not be read.
-#[derive(Drop)]
+#[derive(Clone, Copy)]
 pub enum Input {
     Whole(usize),
     Failed,

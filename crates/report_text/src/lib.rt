@@ -13,7 +13,7 @@ use trace_text::put_trace;
 pub const REPORT_ROOM: usize = 524544;
 
 // The number of the report's bytes, or the number of a refusal. A file that is turned down has a report too.
-#[derive(Drop)]
+#[derive(Clone, Copy)]
 pub enum ReportAnswer {
     Accepted(usize),
     Refused(u8),

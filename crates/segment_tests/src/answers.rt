@@ -7,7 +7,7 @@ use testing::telling::{number, say, tell_kept};
 use values::rows::Row;
 
 // What was seen of the slices so far.
-#[derive(Drop)]
+#[derive(Clone, Copy)]
 struct Seen {
     digest: u64,
     kept: bool,

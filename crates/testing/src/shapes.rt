@@ -5,7 +5,7 @@ use crate::lists::{set_time, set_value};
 use definitions::limits::MOST_RANGES;
 use fields::numbers::signed;
 
-#[derive(Drop)]
+#[derive(Clone, Copy)]
 pub enum Shape {
     // one segment with as many corners as there can be: all highs and all lows are on a hull, and each edge counts
     Bowl,
@@ -24,7 +24,7 @@ pub enum Shape {
 }
 
 // A range by how far it is after its due time, and how far its low and high are above the least value.
-#[derive(Drop)]
+#[derive(Clone, Copy)]
 struct Band {
     late: u64,
     low: u64,

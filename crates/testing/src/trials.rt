@@ -6,7 +6,7 @@ use fields::numbers::signed;
 use fields::parts::byte_at;
 
 // The lengths of the lists so far, the list that is being read, and the number that has begun in it.
-#[derive(Drop)]
+#[derive(Clone, Copy)]
 pub struct Reading {
     pub params: usize,
     pub times: usize,

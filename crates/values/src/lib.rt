@@ -6,7 +6,7 @@ pub mod rows; // rows.rt: an outlook and a segment as rows of numbers, and a seg
 pub mod storing; // storing.rt: a line into three lent slices
 
 // The line whose value at t is (p·t + q)/d, with d above 0.
-#[derive(Drop)]
+#[derive(Clone, Copy)]
 pub struct Line {
     pub p: i64,
     pub q: i64,
@@ -14,7 +14,7 @@ pub struct Line {
 }
 
 // What an outlook looks for: the level, the direction from which it is reached, 0 for rising and 1 for falling, and the step, at whose multiples the line is asked.
-#[derive(Drop)]
+#[derive(Clone, Copy)]
 pub struct Service {
     pub level: i32,
     pub direction: u32,
@@ -22,21 +22,21 @@ pub struct Service {
 }
 
 // Where a line is against a level at a time.
-#[derive(Drop)]
+#[derive(Clone, Copy)]
 pub enum Side {
     Below,
     On,
     Above,
 }
 
-#[derive(Drop)]
+#[derive(Clone, Copy)]
 pub enum Time {
     Never,
     At(u32),
 }
 
 // Open: one range. Else the slow and the fast line, and the times at which some and all lines of the fit reach the level.
-#[derive(Drop)]
+#[derive(Clone, Copy)]
 pub enum Outlook {
     Open,
     Lines {
@@ -47,7 +47,7 @@ pub enum Outlook {
     },
 }
 
-#[derive(Drop)]
+#[derive(Clone, Copy)]
 pub struct Segment {
     pub first_time: u32,
     pub last_time: u32,

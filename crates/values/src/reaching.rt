@@ -34,7 +34,7 @@ impl Line {
 }
 
 // The multiples of a step that are times, from some time on: how many steps the first and the last of them are from 0. There is none where the first is after the last.
-#[derive(Drop)]
+#[derive(Clone, Copy)]
 struct Turns {
     first: u32,
     last: u32,

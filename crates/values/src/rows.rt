@@ -8,7 +8,7 @@ use crate::{Line, Outlook, Segment, Time};
 use definitions::limits::NO_TIME;
 
 // The numbers of a segment, in the slices' order; a line has three.
-#[derive(Drop)]
+#[derive(Clone, Copy)]
 pub struct Row {
     pub first_time: u32,
     pub last_time: u32,
@@ -20,7 +20,7 @@ pub struct Row {
 }
 
 // The numbers of an outlook, the last eight of a row.
-#[derive(Drop)]
+#[derive(Clone, Copy)]
 pub struct OutlookRow {
     pub slow: Line,
     pub fast: Line,
