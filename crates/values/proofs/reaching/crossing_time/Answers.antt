@@ -38,15 +38,13 @@ ascends c = machine_linear! (c.requires.0.bounds.p_in ▹ end) c.if-p-gt0.true (
 
 pub ceil_div-k-requires : goal.ceil_div-k-requires
 ceil_div-k-requires c =
-    let s = (goal.at.ceil_div-k-requires c).Start in
     (rest_in c.requires.0 c.requires.1, rw (pace_is c.requires.0 c.requires.2) (pace_over c.requires.2.over (ascends (goal.at.ceil_div-k-requires c).Then-p-gt0)))
 
 -- what is tested and cast is the number of steps after which the line reaches the level
 
 quotient_is : (c : After-ceil_div-k) → as_i64 c.ceil_div-k.result ≡ crossing_of (line_of c.args.l) c.args.level c.args.step
 quotient_is c =
-    let s = (goal.at.After-ceil_div-k c).Start in
-    to_z-of_z (record { sfits = c.ceil_div-k.type-inv }) ∙ c.ceil_div-k.ensures ∙ ap₂ (λ x y. ceil_div x y) (rest-is s.requires.0 s.requires.1) (pace_is s.requires.0 s.requires.2)
+    to_z-of_z {w = w64} (record { sfits = c.ceil_div-k.type_inv }) ∙ c.ceil_div-k.ensures ∙ ap₂ (λ x y. ceil_div x y) (rest-is c.requires.0 c.requires.1) (pace_is c.requires.0 c.requires.2)
 
 last_is : (c : Then-p-gt0) → to_z w64 c.args.turns.last ≡ pos (to_turn c.args.step most_time)
 last_is c = to_z_pos w64 (omega arith) ∙ ap pos c.requires.3
@@ -56,7 +54,6 @@ early c = subst₂ (λ x y. x ≤ℤ y) (quotient_is (goal.at.Then-k-turns c).Af
 
 pub overflow_cast-result : goal.overflow_cast-result
 overflow_cast-result c =
-    let s = (goal.at.overflow_cast-result c).Start in
     let A = c.args in
     let up = ascends (goal.at.overflow_cast-result c).Then-p-gt0 in
     let nonneg = crossing_nonneg (line_of A.l) A.level A.step c.requires.2.over A.turns.first c.requires.4 up in
@@ -64,7 +61,6 @@ overflow_cast-result c =
 
 pub overflow_mul-result : goal.overflow_mul-result
 overflow_mul-result c =
-    let s = (goal.at.overflow_mul-result c).Start in
     let A = c.args in
     let within = crossing_time_in (line_of A.l) A.level A.step c.requires.2.over A.turns.first c.requires.4 (ascends (goal.at.overflow_mul-result c).Then-p-gt0) (early c) in
     rw (quotient_is (goal.at.overflow_mul-result c).After-ceil_div-k) (record { fits = omega arith })
@@ -72,7 +68,6 @@ overflow_mul-result c =
 pub returns-then-k-turns : goal.returns-then-k-turns
 unfolding time_of
 returns-then-k-turns c =
-    let s = (goal.at.returns-then-k-turns c).Start in
     let A = c.args in
     ap (λ z. at (nat_abs z * A.step)) (quotient_is (goal.at.returns-then-k-turns c).After-ceil_div-k)
     ∙ sym (crossing_at (line_of A.l) A.level A.step c.requires.2.over A.turns.first c.requires.4 (ascends (goal.at.returns-then-k-turns c).Then-p-gt0) (early c))
@@ -80,7 +75,6 @@ returns-then-k-turns c =
 pub returns-else-k-turns : goal.returns-else-k-turns
 unfolding time_of
 returns-else-k-turns c =
-    let s = (goal.at.returns-else-k-turns c).Start in
     let A = c.args in
     let late : to_z w64 A.turns.last <ℤ as_i64 c.ceil_div-k.result = machine_linear! (to_z_fits w64 (of_z w64 c.ceil_div-k.result) ▸ to_z_fits w64 A.turns.last ▸ end) c.if-k-turns.false (search tests depth 30) tt (omega arith) in
     sym (crossing_late (line_of A.l) A.level A.step c.requires.2.over A.turns.first c.requires.4 (ascends (goal.at.returns-else-k-turns c).Then-p-gt0) (subst₂ (λ x y. x <ℤ y) (last_is (goal.at.returns-else-k-turns c).Then-p-gt0) (quotient_is (goal.at.returns-else-k-turns c).After-ceil_div-k) late))
@@ -88,7 +82,6 @@ returns-else-k-turns c =
 pub returns-else-p-gt0 : goal.returns-else-p-gt0
 unfolding time_of
 returns-else-p-gt0 c =
-    let s = (goal.at.returns-else-p-gt0 c).Start in
     let A = c.args in
     let falls : A.l.p ≤ℤ pos 0 = machine_linear! (c.requires.0.bounds.p_in ▹ end) c.if-p-gt0.false (search tests depth 30) tt (omega arith) in
     sym (crossing_never (line_of A.l) A.level A.step c.requires.2.over A.turns.first c.requires.4 falls)

@@ -18,7 +18,6 @@ rise_time-requires c = let good = c.requires.1 in rw (read_back w32 good.level_w
 
 pub returns-then-v-eq0 : goal.returns-then-v-eq0
 returns-then-v-eq0 c =
-    let s = (goal.at.returns-then-v-eq0 c).Start in
     let v = c.args.v in
     let from = c.args.turns.first * v.step in
     c.rise_time.ensures
@@ -35,7 +34,6 @@ rise_time-requires-2 c =
 
 pub returns : goal.returns
 returns c =
-    let s = (goal.at.returns c).Start in
     let v = c.args.v in
     let from = c.args.turns.first * v.step in
     c.rise_time-2.ensures

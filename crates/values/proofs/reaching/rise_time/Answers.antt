@@ -1,6 +1,6 @@
 -- `values::reaching::rise_time` meets its contract: never where the first multiple is past the last time, at that multiple where the line is not below the level there, and else as `crossing_time` says. Assumes nothing.
 use mathlib.Core.Path.{◌≡◌, sym, ap, ◌∙◌, subst}
-use mathlib.Core.Logic.{inl, inr}
+use mathlib.Core.Logic.{◌⊎◌, inl, inr}
 use mathlib.Core.List.{[], ◌∷◌}
 use Prim.Native.Nat.{◌*◌, ◌≤◌}
 use native.Mathlib.Omega.{arith}
@@ -26,7 +26,6 @@ use Rattle.values.proofs.reaching.rise_time.Goals as goal
 pub returns-then-turns : goal.returns-then-turns
 unfolding time_of
 returns-then-turns c =
-    let s = (goal.at.returns-then-turns c).Start in
     let A = c.args in
     sym (reach_none (line_of A.l) A.level A.step c.requires.2.over A.turns.first (omega (arith, c.requires.3)))
 
@@ -37,7 +36,6 @@ in-time c = omega (arith, c.requires.3)
 
 pub overflow_mul-first : goal.overflow_mul-first
 overflow_mul-first c =
-    let s = (goal.at.overflow_mul-first c).Start in
     let within : c.args.turns.first * c.args.step ≤ most_time = (to_turns c.args.step c.requires.2.over most_time c.args.turns.first).1 (in-time (goal.at.overflow_mul-first c).Else-turns) in
     record { fits = omega arith }
 
@@ -50,7 +48,6 @@ tells c = let A = c.args in c.side-s.ensures ∙ ap (λ z. side_at (line_of A.l)
 pub crossing_time-requires : goal.crossing_time-requires
 unfolding side_of
 crossing_time-requires c =
-    let s = (goal.at.crossing_time-requires c).Start in
     let A = c.args in
     rw (read_back w32 c.requires.1 tt)
     (c.requires.0, c.requires.1, c.requires.2, c.requires.3, below_is (line_of A.l) A.level (A.turns.first * A.step) (sym (tells (goal.at.crossing_time-requires c).After-side-s) ∙ ap side_of c.in-Below.is))
@@ -60,19 +57,16 @@ returns-in-Below c =
     let A = c.args in
     c.crossing_time.ensures ∙ ap (λ z. reach_time (rises z A.step) (A.turns.first * A.step) (line_of A.l)) (read_back w32 c.requires.1 tt)
 
--- the second arm is that of the variants 1 and 2
+-- the second arm is that of two variants, and in each the line is at or above the level
 
-second-arm : (s : Side) → OneOf (1 ∷ 2 ∷ []) (tag_of the_type s) → T (at_or_above (side_of s))
+second-arm : (s : Side) → (s ≡ On) ⊎ (s ≡ Above) → T (at_or_above (side_of s))
 unfolding side_of at_or_above
-second-arm Below (inl e) = absurd (omega arith)
-second-arm Below (inr e) = absurd (omega arith)
-second-arm On k = tt
-second-arm Above k = tt
+second-arm s (inl e) = rw e tt
+second-arm s (inr e) = rw e tt
 
 pub returns-in-On : goal.returns-in-On
 unfolding time_of
 returns-in-On c =
-    let s = (goal.at.returns-in-On c).Start in
     let A = c.args in
     sym (reach_now (line_of A.l) A.level A.step c.requires.2.over A.turns.first (in-time (goal.at.returns-in-On c).Else-turns)
-    (reached_is (line_of A.l) A.level (A.turns.first * A.step) (subst (λ z. T (at_or_above z)) (tells (goal.at.returns-in-On c).After-side-s) (second-arm c.side-s.result c.in-On.keys2))))
+    (reached_is (line_of A.l) A.level (A.turns.first * A.step) (subst (λ z. T (at_or_above z)) (tells (goal.at.returns-in-On c).After-side-s) (second-arm c.side-s.result c.in-On.is))))

@@ -21,5 +21,5 @@ returns-in-Open c = sym (ap (λ o. outlook_numbers (outlook_of o)) c.in-Open.is)
 pub returns-in-Lines : goal.returns-in-Lines
 unfolding slow_line fast_line some_number all_number outlook_of
 returns-in-Lines c =
-    let known = c.o-1.given.1 in
+    let known = c.in-Lines.is in
     rw (c.time_number.ensures, c.time_number-in-Lines.ensures) (sym (ap (λ o. outlook_numbers (outlook_of o)) known))
