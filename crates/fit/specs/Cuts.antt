@@ -98,9 +98,9 @@ module _ {flip : Bool} {up down : Chain} {x : Polygon} (e : End) {w : Trimmed} (
                   record {
                     some = omega arith;
                     long = record { times_long = omega (arith, length-set up.times w.end e.time); values_long = omega (arith, length-set up.values w.end e.value) };
-                    in_span_lem = span-push s.upper_held.in_span_lem b (omega arith) v;
+                    in_span = span-push s.upper_held.in_span b (omega arith) v;
                   };
-              lower_held = record { some = t.drops.to; long = s.lower_held.long; in_span_lem = span-part s.lower_held.in_span_lem t.drops.from (omega arith) };
+              lower_held = record { some = t.drops.to; long = s.lower_held.long; in_span = span-part s.lower_held.in_span t.drops.from (omega arith) };
               slow_in = s.slow_in;
               fast_in = t.fast_in;
             };
@@ -129,8 +129,8 @@ module _ {flip : Bool} {up down : Chain} {x : Polygon} (e : End) {w : Trimmed} (
             };
         shape =
             record {
-              upper_held = record { some = t.pops.from; long = record { times_long = omega arith; values_long = omega arith }; in_span_lem = span-part s.upper_held.in_span_lem (omega arith) b };
-              lower_held = record { some = t.drops.to; long = s.lower_held.long; in_span_lem = span-part s.lower_held.in_span_lem t.drops.from (omega arith) };
+              upper_held = record { some = t.pops.from; long = record { times_long = omega arith; values_long = omega arith }; in_span = span-part s.upper_held.in_span (omega arith) b };
+              lower_held = record { some = t.drops.to; long = s.lower_held.long; in_span = span-part s.lower_held.in_span t.drops.from (omega arith) };
               slow_in = s.slow_in;
               fast_in = t.fast_in;
             };

@@ -68,7 +68,7 @@ held_one c e l w =
     record {
       some = omega arith;
       long = record { times_long = omega (arith, l.times_long, length-set c.times 0 e.time); values_long = omega (arith, l.values_long, length-set c.values 0 e.value) };
-      in_span_lem = span-alone c.values e.value (omega (arith, l.values_long)) w;
+      in_span = span-alone c.values e.value (omega (arith, l.values_long)) w;
     }
 
 held_two : (c : Chain) (e f : End) → Long 2 c → Within most_value e.value → Within most_value f.value → Held (record { start = 0; end = 2 }) (store (store c 0 e.time e.value) 1 f.time f.value)
@@ -80,7 +80,7 @@ held_two c e f l w v =
             times_long = omega (arith, l.times_long, length-set c.times 0 e.time, length-set (set c.times 0 e.time) 1 f.time);
             values_long = omega (arith, l.values_long, length-set c.values 0 e.value, length-set (set c.values 0 e.value) 1 f.value);
           };
-      in_span_lem = span-two c.values e.value f.value (omega (arith, l.values_long)) w v;
+      in_span = span-two c.values e.value f.value (omega (arith, l.values_long)) w v;
     }
 
 one-long : {c : Chain} {n : ℕ} → Long n c → 0 < n → Long 1 c
@@ -193,7 +193,7 @@ held-part a b h k w =
     record {
       some = h;
       long = record { times_long = omega (arith, w.long.times_long); values_long = omega (arith, w.long.values_long) };
-      in_span_lem = span-part w.in_span_lem (omega arith) k;
+      in_span = span-part w.in_span (omega arith) k;
     }
 
 -- which of two entries two ranges leave, where it is known whether each has width

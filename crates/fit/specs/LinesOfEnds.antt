@@ -36,7 +36,7 @@ point_of a = record { t = a.t; u = a.u }
 
 pub record Proper (a : Point) : Type 0 where
   pub clock : Clock a.t
-  pub in_span_lem : Within most_value a.u
+  pub in_span : Within most_value a.u
 
 pub record PointIs (N : PointTerm) (r : Point) : Type 0 where
   pub is : point_of r ≡ N
@@ -56,7 +56,7 @@ unfolding end_of
 seen_of flip e h w p q =
     record {
       is = λ i. record { t = p i; u = q i };
-      proper = record { clock = subst Clock (sym p) (time-clock e.time h); in_span_lem = subst (Within most_value) (sym q) (mirror_in flip w) };
+      proper = record { clock = subst Clock (sym p) (time-clock e.time h); in_span = subst (Within most_value) (sym q) (mirror_in flip w) };
     }
 
 pub point-of : {flip : Bool} {e : End} {r : Point} → Seen flip e r → {t : ℕ} {u : ℤ} → e.time ≡ t → e.value ≡ u → PointIs (end_of flip t u) r
@@ -64,12 +64,12 @@ point-of {flip} s p q = record { is = s.is ∙ ap₂ (end_of flip) p q; proper =
 
 -- ---- bounds
 pub points-env : {a b : Point} → (Proper a) × (Proper b) → Env (a.t ∷ a.u ∷ b.t ∷ b.u ∷ []) (upto most_time ∷ upto most_value ∷ upto most_time ∷ upto most_value ∷ [])
-points-env h = ends-env h.0.clock h.0.in_span_lem h.1.clock h.1.in_span_lem
+points-env h = ends-env h.0.clock h.0.in_span h.1.clock h.1.in_span
 
 -- the differences of times are within the greatest time
 pub three-env : {a b n : Point} → (Proper a) × (Proper b) × (Proper n)
     → Env (a.t ∷ a.u ∷ b.t ∷ b.u ∷ n.t ∷ n.u ∷ []) (upto most_time ∷ upto most_value ∷ upto most_time ∷ upto most_value ∷ upto most_time ∷ upto most_value ∷ [])
-three-env h = clock_in h.0.clock ▹ h.0.in_span_lem ▹ clock_in h.1.clock ▹ h.1.in_span_lem ▹ clock_in h.2.clock ▹ h.2.in_span_lem ▹ end
+three-env h = clock_in h.0.clock ▹ h.0.in_span ▹ clock_in h.1.clock ▹ h.1.in_span ▹ clock_in h.2.clock ▹ h.2.in_span ▹ end
 
 module _ {l : Line} (s : Bounded l) where
   pub line_env : Env (l.p ∷ l.q ∷ l.d ∷ []) (upto most_slope ∷ upto most_intercept ∷ upto most_time ∷ [])
@@ -77,7 +77,7 @@ module _ {l : Line} (s : Bounded l) where
 
 pub line_at : {l : Line} {a : Point} → (Bounded l) × (Proper a)
     → Env (l.p ∷ l.q ∷ l.d ∷ a.t ∷ a.u ∷ []) (upto most_slope ∷ upto most_intercept ∷ upto most_time ∷ upto most_time ∷ upto most_value ∷ [])
-line_at h = h.0.p_in ▹ h.0.q_in ▹ h.0.d_in ▹ clock_in h.1.clock ▹ h.1.in_span_lem ▹ end
+line_at h = h.0.p_in ▹ h.0.q_in ▹ h.0.d_in ▹ clock_in h.1.clock ▹ h.1.in_span ▹ end
 
 pub lines-env : {v w : Line} → (Bounded v) × (Bounded w) → Env (v.p ∷ v.d ∷ w.p ∷ w.d ∷ []) (upto most_slope ∷ upto most_time ∷ upto most_slope ∷ upto most_time ∷ [])
 lines-env h = h.0.p_in ▹ h.0.d_in ▹ h.1.p_in ▹ h.1.d_in ▹ end
@@ -93,8 +93,8 @@ line-through a b h p q d x y z =
       is = λ i. record { p = x i; q = y i; d = z i };
       bounded =
           record {
-            p_in = subst (Within most_slope) (sym x) (in_wide (in_sub h.1.in_span_lem h.0.in_span_lem) tt);
-            q_in = subst (Within most_intercept) (sym y) (in_wide (in_sub (in_mul h.0.in_span_lem (clock_in h.1.clock)) (in_mul h.1.in_span_lem (clock_in h.0.clock))) tt);
+            p_in = subst (Within most_slope) (sym x) (in_wide (in_sub h.1.in_span h.0.in_span) tt);
+            q_in = subst (Within most_intercept) (sym y) (in_wide (in_sub (in_mul h.0.in_span (clock_in h.1.clock)) (in_mul h.1.in_span (clock_in h.0.clock))) tt);
             d_in = subst (Within most_time) (sym z) (apart h.0.clock h.1.clock);
           };
     }

@@ -36,7 +36,7 @@ polygon_of flip up down x =
 pub record Held (p : Part) (c : Chain) : Type 0 where
   pub some : p.start < p.end
   pub long : Long p.end c
-  pub in_span_lem : InSpan c.values p.start p.end
+  pub in_span : InSpan c.values p.start p.end
 
 pub record Shape (x : Polygon) (up down : Chain) : Type 0 where
   pub upper_held : Held x.upper up
