@@ -6,7 +6,7 @@
 --     signed-long            a number of 64 bits has at most 20 bytes
 --
 -- Assumes nothing.
-use Rattle.std.specs.Prelude.{suc, ◌+◌, ◌≤◌, ◌<◌, ◌≡◌, ◌++◌, T, ℤ, pos, negsuc, nat_abs, ◌-ℤ◌, length, ◌≤ℤ◌, ◌<ℤ◌}
+use Rattle.std.specs.Prelude.{suc, ◌+◌, ◌≤◌, ◌≡◌, ◌++◌, T, ℤ, pos, negsuc, nat_abs, ◌-ℤ◌, length, ◌≤ℤ◌, ◌<ℤ◌}
 use Rattle.std.proofs.Common.{sym, ap, ◌∙◌, arith, add-one, ltb→lt, Fits, SFits, to_z-of_z}
 use Rattle.std.proofs.Math.IntN.{+ℤ_comm, -ℤ_one}
 use Rattle.std.specs.Int.Signed.{non_neg}

@@ -1,4 +1,6 @@
 // Words and decimal numbers in a lent text. Each `put_..` puts its piece from `at` on and gives the place after it.
+#![tactic(auto)]
+
 ghost use Rattle.std.specs.Prelude.{◌≡◌, ◌++◌, length};
 ghost use Rattle.definitions.specs.Report.{decimal, signed_decimal};
 ghost use Rattle.text.specs.Put.{Room, Put};
