@@ -1,0 +1,53 @@
+-- Proof of `panel_trial::tallies::tally`. The loop's invariant: the tally of all addresses is that of the addresses from the k-th on, added to what is counted; and no count is above k, so that none wraps. Assumes nothing.
+use Prim.Native.Nat.{ℕ, ◌+◌, ◌<◌}
+use native.Mathlib.Numerals.{add-one}
+use native.Mathlib.Omega.{arith}
+use mathlib.Core.Path.{◌≡◌, refl, sym, ap, ap₂, ◌∙◌}
+use mathlib.Core.List.{List}
+use lib.ListN.{length, length-set, get_or, drop, drop_of_length-le}
+use Rattle.panel_laws.specs.Tallies.{incremented, tallied, tallied-from, incremented-bound}
+use Rattle.panel_trial.proofs.tallies.tally.Goals.{At-loop-k}
+use Rattle.panel_trial.proofs.tallies.tally.Goals as goal
+
+pub loop-k-init : goal.loop-k-init
+loop-k-init c = (omega arith, (refl, ((λ i. let z = c.requires.1 i in omega (arith, z)), refl)))
+
+pub count_in-requires : goal.count_in-requires
+count_in-requires c =
+    let args = c.args in
+    let few = c.requires.0 in
+    let bound = c.loop-k.invariant.1.1.0 (get_or args.addresses.now c.loop-k.k 0) in
+    let in_List = c.loop-k.invariant.0 in
+    omega (arith, few, bound, in_List)
+
+same_counts : (cs : List ℕ) (x : ℕ) → length (incremented cs x) ≡ length cs
+unfolding incremented
+same_counts cs x = length-set cs x (get_or cs x 0 + 1)
+
+pub loop-k-preserved : goal.loop-k-preserved
+loop-k-preserved c =
+    let args = c.args in
+    let xs = args.addresses.now in
+    let k = c.loop-k.k in
+    let inv = c.loop-k.invariant in
+    let x = get_or xs k 0 in
+    let stored = c.count_in.ensures in
+    let less : k < length xs = omega arith in (
+      omega (arith, less),
+      (
+        ap length stored ∙ same_counts c.loop-k.counts x ∙ inv.1.0,
+        (
+          (λ i. let b = inv.1.1.0 i in let n = incremented-bound c.loop-k.counts x i in let e = ap (λ cs. get_or cs i 0) stored in omega (arith, b, n, e)),
+          inv.1.1.1 ∙ tallied-from c.loop-k.counts k xs less ∙ sym (ap₂ (λ cs i. tallied cs (drop i xs)) stored (add-one k)),
+        ),
+      ),
+    )
+
+pub shape_of-counts : goal.shape_of-counts
+shape_of-counts c = c.loop-k.invariant.1.0
+
+pub returns : goal.returns
+unfolding tallied
+returns c =
+    let args = c.args in
+    sym (c.loop-k.invariant.1.1.1 ∙ ap (tallied c.loop-k.counts) (drop_of_length-le args.addresses.now {i = c.loop-k.k} c.loop-k-test.false))
