@@ -1,5 +1,6 @@
 -- `preview::preview` meets its contract: the trial answers with the number of the first row that holds; where none does, the answer is the effect of the range.
 -- Assumes nothing.
+-- ---- at entry; numbers with a sign are passed on as bits
 use mathlib.Core.Path.{◌≡◌, sym, ap, ◌∙◌, subst}
 use mathlib.Core.Bool.{false}
 use mathlib.Core.List.{List}
@@ -20,22 +21,21 @@ use Rattle.preview.specs.declared.PreviewAnswer.{PreviewAnswer}
 use Rattle.preview.specs.PreviewPromise.{PreviewPromise}
 use Rattle.preview.specs.FoundEffects.{Unrefused, promise_refused, promise_empty, promise_effect}
 use borrow.Author.Rules.{rules}
-use Rattle.preview.proofs.preview.Statement.{statement}
-use Rattle.preview.proofs.preview.Tie as tie
+use Rattle.preview.proofs.preview.Goals.{After-try_longer-number, Start}
+use Rattle.preview.proofs.preview.Goals as goal
 
--- ---- at entry; numbers with a sign are passed on as bits
-
-abbrev lists : tie.Start → Lists
+abbrev lists : Start → Lists
 lists s = record { times = s.args.times.now; lows = s.args.lows.now; highs = s.args.highs.now }
 
-abbrev service : tie.Start → Service
+abbrev service : Start → Service
 service s = record { level = to_z w32 (of_z w32 s.args.level); direction = s.args.direction; step = s.args.step }
 
-abbrev range : tie.Start → Range
+abbrev range : Start → Range
 range s = record { time = s.args.time; low = to_z w32 (of_z w32 s.args.low); high = to_z w32 (of_z w32 s.args.high) }
 
 -- what is promised of the numbers as they are passed on is promised of them as they were given
-as-given : (s : tie.Start) {answer : PreviewAnswer} → PreviewPromise (service s) (lists s) (range s) answer
+
+as-given : (s : Start) {answer : PreviewAnswer} → PreviewPromise (service s) (lists s) (range s) answer
     → PreviewPromise (record { level = s.args.level; direction = s.args.direction; step = s.args.step }) (lists s) (record { time = s.args.time; low = s.args.low; high = s.args.high }) answer
 as-given s {answer} =
     subst (λ (n : Service × Range). PreviewPromise n.0 (lists s) n.1 answer)
@@ -43,21 +43,21 @@ as-given s {answer} =
 
 -- ---- where the trial has answered
 
-module _ (c : tie.After-try-longer) where
-  abbrev entry : tie.Start
-  entry = c.before.before.before
+module _ (c : After-try_longer-number) where
+  abbrev entry : Start
+  entry = (goal.at.After-try_longer-number c).Start
 
   abbrev number : ℕ
-  number = c.try-longer.result
+  number = c.try_longer-number.result
 
   abbrev rows : List Row
-  rows = trial_rows false c.before.service-outside.result (longer (lists entry) (range entry))
+  rows = trial_rows false c.service_outside-outside.result (longer (lists entry) (range entry))
 
   number_is : refusal (firstRow rows) ≡ number
-  number_is = sym c.try-longer.ensures
+  number_is = sym c.try_longer-number.ensures
 
   rows_are : firstRow (preview_rows (service entry) (lists entry) (range entry)) ≡ firstRow rows
-  rows_are = preview_trial (service entry) (lists entry) (range entry) ∙ ap (λ o. firstRow (trial_rows false o (longer (lists entry) (range entry)))) (sym c.before.service-outside.ensures)
+  rows_are = preview_trial (service entry) (lists entry) (range entry) ∙ ap (λ o. firstRow (trial_rows false o (longer (lists entry) (range entry)))) (sym c.service_outside-outside.ensures)
 
   one_holds : 0 < number → firstRow (preview_rows (service entry) (lists entry) (range entry)) ≡ refused number
   one_holds h = rows_are ∙ refusal-above (firstRow rows) number number_is h
@@ -70,39 +70,22 @@ module _ (c : tie.After-try-longer) where
       let p = (preview-accepted (service entry) (lists entry) (range entry)).0 (none-holds e) in
       record { good = p.0; lists_accepted = p.1; room = p.2; some = h }
 
-service-outside-requires : tie.Need-service-outside-requires
-service-outside-requires c κs = search rules
+pub returns-then-number-ne0 : goal.returns-then-number-ne0
+returns-then-number-ne0 c = let t = (goal.at.returns-then-number-ne0 c).After-try_longer-number in as-given (entry t) (promise_refused (service (entry t)) (lists (entry t)) (range (entry t)) (number t) (one_holds t (omega (arith, c.if-number-ne0.true))))
 
-try-longer-requires : tie.Need-try-longer-requires
-try-longer-requires c κs = search rules
-
-returns : tie.Need-returns
-returns c = let t = c.before in as-given (entry t) (promise_refused (service (entry t)) (lists (entry t)) (range (entry t)) (number t) (one_holds t (omega (arith, c.if1.true))))
-
-returns-2 : tie.Need-returns-2
-returns-2 c =
-    let t = c.before.before in
+pub returns-then-times-eq0 : goal.returns-then-times-eq0
+returns-then-times-eq0 c =
+    let t = (goal.at.returns-then-times-eq0 c).After-try_longer-number in
     let s = entry t in
-    let none = none-holds t c.before.if1.false in
+    let none = none-holds t c.if-number-ne0.false in
     let p = (preview-accepted (service s) (lists s) (range s)).0 none in
-    as-given s (promise_empty (service s) (lists s) (range s) none (shorter_accepted (lists s) (range s) p.1).same c.if2.true)
+    as-given s (promise_empty (service s) (lists s) (range s) none (shorter_accepted (lists s) (range s) p.1).same c.if-times-eq0.true)
 
-effect-requires : tie.Need-effect-requires
-effect-requires c κs = unrefused c.before.before c.before.if1.false (omega (arith, c.if2.false))
+pub effect-requires : goal.effect-requires
+effect-requires c = unrefused (goal.at.effect-requires c).After-try_longer-number c.if-number-ne0.false (omega (arith, c.if-times-eq0.false))
 
-returns-3 : tie.Need-returns-3
-returns-3 c =
-    let t = c.before.before.before in
+pub returns : goal.returns
+returns c =
+    let t = (goal.at.returns c).After-try_longer-number in
     let s = entry t in
-    as-given s (promise_effect (service s) (lists s) (range s) (none-holds t c.before.before.if1.false) c.effect.ensures)
-
-pub preview-spec : {M : Type 1} → statement M
-preview-spec =
-    tie.close
-    (tie.spec
-    service-outside-requires
-    try-longer-requires
-    returns
-    returns-2
-    effect-requires
-    returns-3)
+    as-given s (promise_effect (service s) (lists s) (range s) (none-holds t c.if-number-ne0.false) c.effect.ensures)
