@@ -1,4 +1,4 @@
-// The lent list of entries, one for each detector: the functions over a slice of structs. Their proofs walk the code by hand.
+// The lent list of entries, one for each detector: the functions over a slice of structs.
 ghost use Rattle.std.specs.Prelude.{◌≡◌, ◌<◌, length, get_or};
 ghost use Rattle.panel_laws.specs.Entries.{no_entry, with_held};
 ghost use Rattle.panel.specs.Tables.{table_from};

@@ -1,4 +1,6 @@
 // One panel, many heads: Add and Head ranges.
+#![tactic(auto)]
+
 pub mod entries; // entries.rt: the lent list of entries, one for each detector
 pub mod lists; // lists.rt: one head's ranges, copied into lent lists
 pub mod places; // places.rt: a range put at the next place

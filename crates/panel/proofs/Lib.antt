@@ -1,4 +1,0 @@
-pub mod Walks
-pub mod PassedOn
-mod Shares
-mod Elements
