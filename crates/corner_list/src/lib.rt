@@ -1,4 +1,6 @@
 // The corners of the fit into three lent slices, each in lowest terms: slow, the lines of the upper chain, fast, the lines of the lower chain.
+#![tactic(auto)]
+
 ghost use Rattle.std.specs.Prelude.{false, [], ◌∷◌, ◌+◌, ◌-◌};
 ghost use Rattle.definitions.specs.Corners.{reduced as reducedOf};
 ghost use Rattle.drift_laws.specs.ChainParts.{chain, of_chain};

@@ -1,4 +1,6 @@
 // The segments of a trace, their outlooks, and the corners of the fit. Only the calls are open to outsiders.
+#![tactic(auto)]
+
 mod filling; // filling.rt: every segment into the lent slices
 
 ghost use Rattle.drift.specs.Columns.{columns};

@@ -1,4 +1,6 @@
 // The fit of one run of ranges: how far a run goes, and its polygon.
+#![tactic(auto)]
+
 mod chain; // chain.rt: what a new end leaves of the chains
 pub mod cut; // cut.rt: the polygon with one more range
 pub mod ends; // ends.rt: ranges by value, and their ends in the chains and as points

@@ -1,4 +1,6 @@
 // The latest trend of a trace: the longest run at its end that some line fits, its outlook and its corners. Only the call is open to outsiders.
+#![tactic(auto)]
+
 mod backward; // backward.rt: where the latest run begins
 
 ghost use Rattle.values.specs.Meanings.{service_of};

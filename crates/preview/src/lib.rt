@@ -1,4 +1,6 @@
 // The effect of a range, seen before it is added. Only the call is open to outsiders.
+#![tactic(auto)]
+
 mod joining; // joining.rt: the last run with one range more
 
 ghost use Rattle.values.specs.Meanings.{service_of};

@@ -1,4 +1,6 @@
 // What a segment is made of, by value, its row of numbers, and what is computed of lines alone: lowest terms, the side of a level, the outlook.
+#![tactic(auto)]
+
 pub mod lowest_terms; // lowest_terms.rt: a line in lowest terms
 mod numbers; // numbers.rt: the greatest common divisor, and the quotient rounded up
 pub mod reaching; // reaching.rt: the side of a level, when a line reaches it, and the outlook of two lines

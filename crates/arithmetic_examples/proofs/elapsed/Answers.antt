@@ -1,5 +1,4 @@
 -- `arithmetic_examples::elapsed` meets its contract: the casts lose nothing, and the difference is below 2^32. Assumes nothing.
-use borrow.Author.Rules.{rules}
 use Rattle.integers.specs.Quotes.{quotes}
 use Rattle.integers.specs.Bounds.{unsigned-between}
 use Rattle.integers.specs.Machine.{◌◂◌, end, no_overflow!, machine_value!, reads}

@@ -1,11 +1,10 @@
 -- `arithmetic_examples::highest` meets its contract. The invariant: every value before i is at most the best, which is the bits of a local, read as a signed number. The measure is what is left of the length. Assumes nothing.
 use mathlib.Core.Path.{◌≡◌}
 use mathlib.Core.Bool.{true, false}
-use mathlib.Core.Logic.{⊎_elim}
 use mathlib.Core.List.{List}
-use Prim.Native.Nat.{ℕ, ◌≤◌, ◌<◌, ◌-◌, ◌+◌}
+use Prim.Native.Nat.{ℕ, ◌+◌}
 use native.Mathlib.Omega.{arith}
-use lib.ListN.{length, get_or}
+use lib.ListN.{get_or}
 use lib.IntN.{ℤ, pos}
 use lib.Signed.{◌≤ℤ◌, lt_z}
 use mir.Syntax.{w64}
@@ -49,7 +48,7 @@ loop-i-preserved c =
     let f : SFits w64 (get_or us i (pos 0)) = record { sfits = c.u-1.given } in (
       omega arith,
       elim c.if-best-u.branch [
-        then-best-u w ↦ taken us i c.loop-i.best-bits c.if-best-u.best-bits f c.loop-i.invariant.1 w.best-is w.if-best-u.true
+        | then-best-u w ↦ taken us i c.loop-i.best-bits c.if-best-u.best-bits f c.loop-i.invariant.1 w.best-is w.if-best-u.true
         | else-best-u w ↦ kept us i c.loop-i.best-bits c.if-best-u.best-bits f c.loop-i.invariant.1 w.best-is w.if-best-u.false
       ],
     )

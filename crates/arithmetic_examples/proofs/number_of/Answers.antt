@@ -1,5 +1,4 @@
 -- `arithmetic_examples::number_of` meets its contract: an i64 holds every number below 2^63. Assumes nothing.
-use borrow.Author.Rules.{rules}
 use Rattle.integers.specs.Quotes.{quotes}
 use Rattle.integers.specs.Bounds.{nat_below}
 use Rattle.integers.specs.Machine.{◌◂◌, end, machine_value!, reads}

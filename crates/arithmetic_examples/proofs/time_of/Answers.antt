@@ -1,5 +1,4 @@
 -- `arithmetic_examples::time_of` meets its contract: an i64 holds every u32. Assumes nothing.
-use borrow.Author.Rules.{rules}
 use Rattle.integers.specs.Quotes.{quotes}
 use Rattle.integers.specs.Bounds.{unsigned-between}
 use Rattle.integers.specs.Machine.{◌◂◌, end, machine_value!, reads}

@@ -1,9 +1,7 @@
 -- `corner_list::list_chain` meets its contract: the lines up to the j-th point stand in the slices, from the place at up to n. Assumes nothing.
 use mathlib.Core.Path.{◌≡◌, refl, subst, ◌∙◌}
 use mathlib.Core.Bool.{false}
-use Prim.Native.Nat.{◌-◌, ◌<◌, ◌≤◌}
 use native.Mathlib.Omega.{arith}
-use lib.ListN.{length}
 use Rattle.drift_laws.specs.ChainParts.{chain, of_chain}
 use Rattle.corner_list.specs.CornerRows.{ChainListed, listed-none, listed_more, joined_is, joined_small}
 use Rattle.corner_list.proofs.list_chain.Goals as goal

@@ -5,7 +5,6 @@ use Rattle.definitions.specs.Ranges.{Lists}
 use Rattle.trial_laws.specs.LongerLists.{shorter_accepted}
 use Rattle.fit.specs.RangesByValue.{range_of}
 use Rattle.preview.specs.FoundEffects.{given_closed, given_joined}
-use borrow.Author.Rules.{rules}
 use Rattle.preview.proofs.effect.Goals.{Start}
 use Rattle.preview.proofs.effect.Goals as goal
 

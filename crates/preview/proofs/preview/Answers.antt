@@ -20,7 +20,6 @@ use Rattle.trial_laws.specs.LongerLists.{shorter_accepted, preview_trial, previe
 use Rattle.preview.specs.declared.PreviewAnswer.{PreviewAnswer}
 use Rattle.preview.specs.PreviewPromise.{PreviewPromise}
 use Rattle.preview.specs.FoundEffects.{Unrefused, promise_refused, promise_empty, promise_effect}
-use borrow.Author.Rules.{rules}
 use Rattle.preview.proofs.preview.Goals.{After-try_longer-number, Start}
 use Rattle.preview.proofs.preview.Goals as goal
 

@@ -1,6 +1,6 @@
 -- `drift::filling::fill` meets its contract. The invariant is `Turn`: the first `count` segments are stored, and the ranges from `start` on hold those
 -- that are left. What shrinks is the number of ranges from `start` on. Assumes nothing.
-use Prim.Native.Nat.{◌-◌, ◌+◌, ◌*◌, suc}
+use Prim.Native.Nat.{◌+◌, ◌*◌, suc}
 use mathlib.Core.Path.{◌≡◌, refl, sym, ap, ◌∙◌}
 use mathlib.Core.List.{List, ◌∷◌}
 use native.Mathlib.Omega.{arith}
@@ -9,7 +9,6 @@ use lib.ListN.{length, drop, drop_of_length-le}
 use mir.Syntax.{w64}
 use mir.Val.{Fits}
 use Rattle.definitions.specs.Services.{Service}
-use Rattle.definitions.specs.Spans.{most_ranges}
 use Rattle.definitions.specs.Ranges.{Lists, ranges_of}
 use Rattle.definitions.specs.Splits.{cut}
 use Rattle.definitions.specs.Segments.{segments}
@@ -17,7 +16,7 @@ use Rattle.definitions.specs.Results.{Segment, segments_of}
 use Rattle.values.specs.Meanings.{service_of, segment_of}
 use Rattle.drift.specs.Columns.{Columns, columns, Room, SameLengths, FirstStored, AllStored}
 use Rattle.drift.specs.ColumnLaws.{first-none, first-lengths, first_room, first_next, rest_left, first-all}
-use Rattle.drift.specs.Filling.{FillReady, Turn, ranges-long}
+use Rattle.drift.specs.Filling.{FillReady, ranges-long}
 use Rattle.drift.proofs.filling.fill.Goals.{After-fast_ds-1, After-loop-start, After-segment_from-segment, Start}
 use Rattle.drift.proofs.filling.fill.Goals as goal
 

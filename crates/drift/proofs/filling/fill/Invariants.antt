@@ -1,29 +1,18 @@
 -- `drift::filling::fill` meets its contract. The invariant is `Turn`: the first `count` segments are stored, and the ranges from `start` on hold those
 -- that are left. What shrinks is the number of ranges from `start` on. Assumes nothing.
-use Prim.Native.Nat.{◌-◌, ◌+◌, ◌*◌, suc}
-use mathlib.Core.Path.{◌≡◌, refl, sym, ap, ◌∙◌}
-use mathlib.Core.List.{List, ◌∷◌}
-use native.Mathlib.Omega.{arith}
-use borrow.Author.Rules.{scaled_Fits}
-use lib.ListN.{length, drop, drop_of_length-le}
-use mir.Syntax.{w64}
-use mir.Val.{Fits}
-use Rattle.definitions.specs.Services.{Service}
+use Prim.Native.Nat.{◌-◌}
+use mathlib.Core.Path.{◌≡◌}
+use lib.ListN.{length}
 use Rattle.definitions.specs.Spans.{most_ranges}
-use Rattle.definitions.specs.Ranges.{Lists, ranges_of}
-use Rattle.definitions.specs.Splits.{cut}
-use Rattle.definitions.specs.Segments.{segments}
-use Rattle.definitions.specs.Results.{Segment, segments_of}
-use Rattle.values.specs.Meanings.{service_of, segment_of}
-use Rattle.drift.specs.Columns.{Columns, columns, Room, SameLengths, FirstStored, AllStored}
-use Rattle.drift.specs.ColumnLaws.{first-none, first-lengths, first_room, first_next, rest_left, first-all}
-use Rattle.drift.specs.Filling.{FillReady, Turn, ranges-long}
+use Rattle.values.specs.Meanings.{service_of}
+use Rattle.drift.specs.Columns.{columns}
+use Rattle.drift.specs.Filling.{Turn}
 use Rattle.drift.proofs.filling.fill.Given as goal
 
 abbrev pub invariant-loop-start : goal.invariant-loop-start
 invariant-loop-start l =
-        Turn (service_of l.v) (record { times = l.times; lows = l.lows; highs = l.highs }) (columns l.initial.first_times l.initial.last_times l.initial.counts l.initial.slow_ps l.initial.slow_qs l.initial.slow_ds l.initial.fast_ps l.initial.fast_qs l.initial.fast_ds l.initial.somes l.initial.alls) (columns l.first_times l.last_times l.counts l.slow_ps l.slow_qs l.slow_ds l.fast_ps l.fast_qs l.fast_ds l.somes l.alls) l.start l.count × (length l.up_times ≡ most_ranges) × (length l.up_values ≡ most_ranges) × (length l.down_times ≡ most_ranges) × (length l.down_values ≡ most_ranges)
+    Turn (service_of l.v) (record { times = l.times; lows = l.lows; highs = l.highs }) (columns l.initial.first_times l.initial.last_times l.initial.counts l.initial.slow_ps l.initial.slow_qs l.initial.slow_ds l.initial.fast_ps l.initial.fast_qs l.initial.fast_ds l.initial.somes l.initial.alls) (columns l.first_times l.last_times l.counts l.slow_ps l.slow_qs l.slow_ds l.fast_ps l.fast_qs l.fast_ds l.somes l.alls) l.start l.count × (length l.up_times ≡ most_ranges) × (length l.up_values ≡ most_ranges) × (length l.down_times ≡ most_ranges) × (length l.down_values ≡ most_ranges)
 
 abbrev pub decreases-loop-start : goal.decreases-loop-start
 decreases-loop-start l =
-        length l.times - l.start
+    length l.times - l.start

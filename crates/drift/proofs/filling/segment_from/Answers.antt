@@ -1,7 +1,6 @@
 -- `drift::filling::segment_from` meets its contract: what `run_from` found is the next segment, with the outlook that `outlook_of` gives its two lines.
 -- Assumes nothing.
 use mathlib.Core.Path.{sym, subst}
-use Prim.Native.Nat.{◌-◌}
 use native.Mathlib.Nat.{le_refl}
 use native.Mathlib.Omega.{arith}
 use Rattle.definitions.specs.Ranges.{Lists}

@@ -1,9 +1,7 @@
 -- `fit::chain::drop_head` meets its contract. The invariant: what `drop_over` makes of the part is what it makes of the whole one. Assumes nothing.
-use Prim.Native.Nat.{◌<◌, ◌≤◌, ◌-◌}
 use native.Mathlib.Omega.{arith}
-use mathlib.Core.Path.{◌≡◌, refl, ◌∙◌}
-use Rattle.chains.specs.Cut.{drop_over}
-use Rattle.drift_laws.specs.ChainParts.{chain, between, of_chain, drop-step, drop_stop, drop-one}
+use mathlib.Core.Path.{refl, ◌∙◌}
+use Rattle.drift_laws.specs.ChainParts.{chain, of_chain, drop-step, drop_stop, drop-one}
 use Rattle.fit.specs.LinesOfEnds.{point_of, joined-told}
 use Rattle.fit.proofs.chain.drop_head.Goals as goal
 

@@ -1,15 +1,14 @@
 -- `fit::chain::drop_head` meets its contract. The invariant: what `drop_over` makes of the part is what it makes of the whole one. Assumes nothing.
 use Prim.Native.Nat.{◌<◌, ◌≤◌, ◌-◌}
-use native.Mathlib.Omega.{arith}
-use mathlib.Core.Path.{◌≡◌, refl, ◌∙◌}
+use mathlib.Core.Path.{◌≡◌}
 use Rattle.chains.specs.Cut.{drop_over}
-use Rattle.drift_laws.specs.ChainParts.{chain, between, of_chain, drop-step, drop_stop, drop-one}
-use Rattle.fit.specs.LinesOfEnds.{point_of, joined-told}
+use Rattle.drift_laws.specs.ChainParts.{chain, between, of_chain}
+use Rattle.fit.specs.LinesOfEnds.{point_of}
 use Rattle.fit.proofs.chain.drop_head.Given as goal
 
 abbrev pub invariant-loop-h : goal.invariant-loop-h
 invariant-loop-h l =
-        (l.from ≤ l.h) × (l.h < l.to) × (drop_over (point_of l.n) (between (of_chain l.flip (chain l.times l.values)) l.h l.to) ≡ drop_over (point_of l.n) (between (of_chain l.flip (chain l.times l.values)) l.from l.to))
+    (l.from ≤ l.h) × (l.h < l.to) × (drop_over (point_of l.n) (between (of_chain l.flip (chain l.times l.values)) l.h l.to) ≡ drop_over (point_of l.n) (between (of_chain l.flip (chain l.times l.values)) l.from l.to))
 
 abbrev pub decreases-loop-h : goal.decreases-loop-h
 decreases-loop-h l =

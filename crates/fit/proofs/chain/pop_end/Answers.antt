@@ -1,9 +1,8 @@
 -- `fit::chain::pop_end` meets its contract. The invariant: what `trim` makes of the stack is what it makes of the whole one. Assumes nothing.
-use Prim.Native.Nat.{◌<◌, ◌≤◌, ◌-◌}
+use Prim.Native.Nat.{◌-◌}
 use native.Mathlib.Omega.{arith}
-use mathlib.Core.Path.{◌≡◌, refl, ◌∙◌}
-use Rattle.chains.specs.Pop.{trim}
-use Rattle.drift_laws.specs.ChainParts.{chain, stack, of_chain, popped, pop_step, pop_stop, pop_one}
+use mathlib.Core.Path.{refl, ◌∙◌}
+use Rattle.drift_laws.specs.ChainParts.{chain, of_chain, popped, pop_step, pop_stop, pop_one}
 use Rattle.fit.specs.LinesOfEnds.{point_of, joined-told}
 use Rattle.fit.proofs.chain.pop_end.Goals as goal
 

@@ -1,15 +1,14 @@
 -- `fit::chain::pop_end` meets its contract. The invariant: what `trim` makes of the stack is what it makes of the whole one. Assumes nothing.
 use Prim.Native.Nat.{◌<◌, ◌≤◌, ◌-◌}
-use native.Mathlib.Omega.{arith}
-use mathlib.Core.Path.{◌≡◌, refl, ◌∙◌}
+use mathlib.Core.Path.{◌≡◌}
 use Rattle.chains.specs.Pop.{trim}
-use Rattle.drift_laws.specs.ChainParts.{chain, stack, of_chain, popped, pop_step, pop_stop, pop_one}
-use Rattle.fit.specs.LinesOfEnds.{point_of, joined-told}
+use Rattle.drift_laws.specs.ChainParts.{chain, stack, of_chain}
+use Rattle.fit.specs.LinesOfEnds.{point_of}
 use Rattle.fit.proofs.chain.pop_end.Given as goal
 
 abbrev pub invariant-loop-m : goal.invariant-loop-m
 invariant-loop-m l =
-        (l.from < l.m) × (l.m ≤ l.to) × (trim (point_of l.n) (stack (of_chain l.flip (chain l.times l.values)) l.from (l.m - l.from)) ≡ trim (point_of l.n) (stack (of_chain l.flip (chain l.times l.values)) l.from (l.to - l.from)))
+    (l.from < l.m) × (l.m ≤ l.to) × (trim (point_of l.n) (stack (of_chain l.flip (chain l.times l.values)) l.from (l.m - l.from)) ≡ trim (point_of l.n) (stack (of_chain l.flip (chain l.times l.values)) l.from (l.to - l.from)))
 
 abbrev pub decreases-loop-m : goal.decreases-loop-m
 decreases-loop-m l =

@@ -1,6 +1,5 @@
 -- `fit::cut::begin` meets its contract: slow goes from the first high to the second low, fast from low to high, and both ranges are stored. Assumes nothing.
 -- there is a place for the first end
-use mathlib.Core.Path.{◌∙◌}
 use native.Mathlib.Omega.{arith}
 use Rattle.drift_laws.specs.ChainParts.{Chain, Long}
 use Rattle.fit.specs.RangesByValue.{high_in, low_in}

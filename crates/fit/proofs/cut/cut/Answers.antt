@@ -1,5 +1,4 @@
 -- `fit::cut::cut` meets its contract. Assumes nothing.
-use mathlib.Core.Path.{refl}
 use native.Mathlib.Omega.{arith}
 use Rattle.fit.specs.Cuts.{trimmed-seen, cut-push, cut_keep}
 use Rattle.fit.proofs.cut.cut.Goals as goal

@@ -1,5 +1,4 @@
 -- `fit::cut::mirrored` meets its contract. Assumes nothing.
-use borrow.Author.Rules.{rules}
 use Rattle.fit.specs.Cuts.{flipped-is}
 use Rattle.fit.proofs.cut.mirrored.Goals as goal
 

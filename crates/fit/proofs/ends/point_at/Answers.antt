@@ -2,7 +2,6 @@
 use mathlib.Core.Path.{refl}
 use Rattle.drift_laws.specs.EndReads.{narrow_is, narrow_in}
 use Rattle.fit.specs.LinesOfEnds.{point-of}
-use borrow.Author.Rules.{rules}
 use Rattle.fit.proofs.ends.point_at.Goals as goal
 
 pub seen-requires : goal.seen-requires

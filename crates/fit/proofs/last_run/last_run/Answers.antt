@@ -1,10 +1,7 @@
 -- `fit::last_run::last_run` meets its contract: at each turn the segment running after k ranges is the last of those from `start` on. What shrinks is the number of ranges from `start` to k. Assumes nothing.
-use mathlib.Core.Path.{◌≡◌, refl, ◌∙◌}
-use Prim.Native.Nat.{◌-◌}
+use mathlib.Core.Path.{refl, ◌∙◌}
 use native.Mathlib.Omega.{arith}
-use lib.ListN.{length}
-use Rattle.drift_laws.specs.RangeEnds.{lent}
-use Rattle.fit.specs.LastRuns.{Reached, reached_first, reached_next, reached_last}
+use Rattle.fit.specs.LastRuns.{reached_first, reached_next, reached_last}
 use Rattle.fit.proofs.last_run.last_run.Goals.{Start}
 use Rattle.fit.proofs.last_run.last_run.Goals as goal
 

@@ -2,7 +2,6 @@
 use lib.IntN.{pos}
 use lib.Signed.{lt_z}
 use Rattle.fit.specs.LinesOfEnds.{height-test}
-use borrow.Author.Rules.{rules}
 use Rattle.fit.proofs.points.above.Goals as goal
 
 pub returns : goal.returns

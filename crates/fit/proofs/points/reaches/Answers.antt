@@ -2,7 +2,6 @@
 use lib.IntN.{pos}
 use lib.Signed.{le_z}
 use Rattle.fit.specs.LinesOfEnds.{height-test}
-use borrow.Author.Rules.{rules}
 use Rattle.fit.proofs.points.reaches.Goals as goal
 
 pub returns : goal.returns

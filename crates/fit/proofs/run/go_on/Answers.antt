@@ -1,12 +1,9 @@
 -- `fit::run::go_on` meets its contract: at k the polygon at hand is that of the run before the slices and of their ranges up to k, of whatever lists these are ranges. Assumes nothing.
-use mathlib.Core.Path.{◌≡◌, refl, ◌∙◌}
-use Prim.Native.Nat.{◌-◌, ◌≤◌}
+use mathlib.Core.Path.{refl, ◌∙◌}
 use native.Mathlib.Omega.{arith}
-use lib.ListN.{length}
 use Rattle.drift_laws.specs.RangeEnds.{lent}
-use Rattle.drift_laws.specs.ChainParts.{chain}
 use Rattle.fit.specs.RangesByValue.{accepted_in, accepted-range}
-use Rattle.fit.specs.RunsOn.{Going, going_start, going_more, gone_closed, gone-over}
+use Rattle.fit.specs.RunsOn.{going_start, going_more, gone_closed, gone-over}
 use Rattle.fit.proofs.run.go_on.Goals as goal
 
 pub loop-k-init : goal.loop-k-init

@@ -3,7 +3,6 @@ use Prim.Native.Nat.{◌+◌}
 use native.Mathlib.Omega.{arith}
 use Rattle.fit.specs.RangesByValue.{accepted_in, accepted-range}
 use Rattle.fit.specs.RunsOn.{opened-begun, opened-fresh}
-use borrow.Author.Rules.{rules}
 use Rattle.fit.proofs.run.opened.Goals as goal
 
 pub returns-then-begun : goal.returns-then-begun

@@ -1,7 +1,6 @@
 -- `fit::run::run_from` meets its contract: it is a run that has not begun. Assumes nothing.
 use mathlib.Core.Path.{refl}
 use Rattle.fit.specs.RunsOn.{true_false}
-use borrow.Author.Rules.{rules}
 use Rattle.fit.proofs.run.run_from.Goals as goal
 
 pub run_on-requires : goal.run_on-requires

@@ -1,13 +1,10 @@
 -- `fit::run::run_on` meets its contract. Assumes nothing.
 -- a run that has not begun is not single here
 use mathlib.Core.Path.{◌≡◌}
-use mathlib.Core.Logic.{inl, inr}
 use mathlib.Core.Bool.{false}
 use Prim.Native.Nat.{◌-◌, ◌≤◌}
 use native.Mathlib.Nat.{le_of_lt}
-use borrow.Author.Tests.{not-true, not-false, ltb-true, ltb-false}
 use Rattle.fit.specs.RunsOn.{true_false, two_room, go_ready, on_single, on_gone}
-use borrow.Author.Rules.{rules}
 use Rattle.fit.proofs.run.run_on.Goals.{Joined-else-not-begun, else-not-begun-via-then-not-begun+else-n-from-lt2, else-not-begun-via-else-not-begun}
 use Rattle.fit.proofs.run.run_on.Goals as goal
 

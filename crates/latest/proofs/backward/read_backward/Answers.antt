@@ -1,14 +1,13 @@
 -- Proof of `latest::backward::read_backward`: the loop's invariant is `Turning`. Assumes nothing.
 use mathlib.Core.Path.{refl}
-use Prim.Native.Nat.{ℕ, ◌-◌, ◌<◌, ◌≤◌}
+use Prim.Native.Nat.{ℕ, ◌<◌, ◌≤◌}
 use native.Mathlib.Omega.{arith}
 use mir.Syntax.{w32}
 use mir.Facts.{to_z-of_z}
-use borrow.Author.Rules.{rules}
 use Rattle.definitions.specs.Spans.{most_time}
 use Rattle.definitions.specs.Ranges.{Lists}
 use Rattle.drift_laws.specs.RangeEnds.{lent}
-use Rattle.latest.specs.ReadBackward.{Turning, turning, turns_on, all-turned}
+use Rattle.latest.specs.ReadBackward.{turning, turns_on, all-turned}
 use Rattle.latest.proofs.backward.read_backward.Goals.{Start}
 use Rattle.latest.proofs.backward.read_backward.Goals as goal
 

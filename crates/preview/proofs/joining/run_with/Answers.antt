@@ -12,7 +12,6 @@ use Rattle.drift_laws.specs.EndReads.{narrow_is}
 use Rattle.fit.specs.RangesByValue.{range_of, accepted_in, accepted-range}
 use Rattle.fit.specs.RunsOn.{true_false}
 use Rattle.preview.specs.LongerRuns.{alone, alone-accepted, with_second, with_gone}
-use borrow.Author.Rules.{rules}
 use Rattle.preview.proofs.joining.run_with.Goals.{Start}
 use Rattle.preview.proofs.joining.run_with.Goals as goal
 

@@ -2,7 +2,6 @@
 use mathlib.Core.Path.{◌≡◌, refl, sym}
 use mathlib.Core.Bool.{Bool}
 use lib.Signed.{lt_z}
-use borrow.Author.Rules.{rules}
 use Rattle.integers.specs.Machine.{no_overflow!, reads}
 use Rattle.definitions.specs.Lines.{side_at}
 use Rattle.values.specs.Meanings.{line_of, side_of}

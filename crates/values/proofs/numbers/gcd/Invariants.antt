@@ -1,9 +1,7 @@
 -- `values::numbers::gcd` meets its contract. The loop's invariant: the divisor of x and y is that of a and b. The measure is y, as x % y is below it.
 -- Assumes nothing.
-use mathlib.Core.Path.{◌≡◌, refl, sym, ap, ◌∙◌}
-use native.Mathlib.Nat.{mod-lt}
-use native.Mathlib.Omega.{arith}
-use Rattle.integers.specs.Gcd.{gcd-zero, gcd_step_above_0, gcd as gcdOf}
+use mathlib.Core.Path.{◌≡◌}
+use Rattle.integers.specs.Gcd.{gcd as gcdOf}
 use Rattle.values.proofs.numbers.gcd.Given as goal
 
 abbrev pub invariant-loop-y : goal.invariant-loop-y

@@ -4,7 +4,6 @@ use mathlib.Core.List.{[], ◌∷◌}
 use native.Mathlib.Omega.{arith}
 use lib.IntN.{pos, nat_abs, ◌-ℤ◌}
 use mir.Syntax.{w64}
-use borrow.Author.Rules.{rules}
 use Rattle.integers.specs.Bounds.{abs-neg-is}
 use Rattle.integers.specs.Machine.{Env, upto, ◌▹◌, end, no_overflow!, machine_bound!, machine_linear!, negated-is, reads, tests}
 use Rattle.values.specs.Signed.{as_i64, half64, cast-nonneg}

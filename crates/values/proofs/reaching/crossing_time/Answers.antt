@@ -7,7 +7,6 @@ use lib.Signed.{◌≤ℤ◌, ◌<ℤ◌, le_z_yes}
 use mir.Syntax.{w32, w64}
 use mir.Val.{of_z, to_z}
 use mir.Facts.{to_z-of_z, to_z_pos}
-use borrow.Author.Rules.{rules}
 use Rattle.integers.specs.Booleans.{true→T}
 use Rattle.integers.specs.Rounding.{ceil_div}
 use Rattle.integers.specs.Multiples.{to_turn}

@@ -1,6 +1,5 @@
 -- `values::reaching::outlook_of` meets its contract, by those of what it calls. Assumes nothing.
 use mathlib.Core.Path.{ap}
-use borrow.Author.Rules.{rules}
 use Rattle.definitions.specs.Services.{rising, falling, direction_of}
 use Rattle.values.specs.Meanings.{line_of, service_of, outlook_of}
 use Rattle.values.specs.ReachLaws.{reach-first, is-falling, looked-ahead}

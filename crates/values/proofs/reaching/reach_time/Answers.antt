@@ -2,7 +2,6 @@
 use mathlib.Core.Path.{sym, ap, ap₂, ◌∙◌}
 use Prim.Native.Nat.{◌*◌}
 use mir.Syntax.{w32}
-use borrow.Author.Rules.{rules}
 use Rattle.integers.specs.Bounds.{fits, in_neg}
 use Rattle.integers.specs.Machine.{negated_in, negated-is}
 use Rattle.lines.specs.OutlookTimes.{reach_time, rises}

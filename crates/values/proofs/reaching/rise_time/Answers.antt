@@ -1,25 +1,21 @@
 -- `values::reaching::rise_time` meets its contract: never where the first multiple is past the last time, at that multiple where the line is not below the level there, and else as `crossing_time` says. Assumes nothing.
 use mathlib.Core.Path.{◌≡◌, sym, ap, ◌∙◌, subst}
 use mathlib.Core.Logic.{◌⊎◌, inl, inr}
-use mathlib.Core.List.{[], ◌∷◌}
 use Prim.Native.Nat.{◌*◌, ◌≤◌}
 use native.Mathlib.Omega.{arith}
 use lib.Dec.{T}
 use mir.Syntax.{w32}
-use types.Run.{OneOf}
-use denote.Enum.Declared.{tag_of}
 use borrow.Author.Rules.{rules}
 use Rattle.integers.specs.Multiples.{to_turn, to_turns}
 use Rattle.definitions.specs.Spans.{most_time}
 use Rattle.definitions.specs.Lines.{side_at, at_or_above}
 use Rattle.lines.specs.OutlookTimes.{reach_time, rises}
 use Rattle.values.specs.declared.Side.{Side}
-use Rattle.values.specs.declared.Side.TheVariants.{Below, On, Above}
+use Rattle.values.specs.declared.Side.TheVariants.{On, Above}
 use Rattle.values.specs.Meanings.{line_of, side_of, time_of}
 use Rattle.values.specs.Signed.{read_back}
 use Rattle.values.specs.Sides.{below_is, reached_is}
 use Rattle.values.specs.ReachLaws.{reach_none, reach_now}
-use Rattle.values.specs.contracts.Side.{the_type}
 use Rattle.values.proofs.reaching.rise_time.Goals.{After-side-s, Else-turns, Start}
 use Rattle.values.proofs.reaching.rise_time.Goals as goal
 

@@ -3,7 +3,6 @@ use mathlib.Core.Path.{refl}
 use Prim.Native.Nat.{◌+◌, ◌-◌, ◌<◌}
 use native.Mathlib.Nat as NatL
 use native.Mathlib.Omega.{arith}
-use borrow.Author.Rules.{rules}
 use Rattle.integers.specs.Rounding.{ceil_divℕ}
 use Rattle.integers.specs.Multiples.{from_turn, to_turn}
 use Rattle.values.proofs.reaching.turns_from.Goals as goal

@@ -1,7 +1,6 @@
 -- `values::rows::outlook_from` meets its contract: its test is the definition's, and so are the two times. Assumes nothing.
 use mathlib.Core.Path.{refl, ap₂}
 use native.Mathlib.Omega.{arith}
-use borrow.Author.Rules.{rules}
 use borrow.Author.Tests.{lt-ltb, le-ltb}
 use Rattle.definitions.specs.Outlook.{lines}
 use Rattle.values.specs.Meanings.{line_of, outlook_of}

@@ -1,6 +1,5 @@
 -- `values::rows::row_of` meets its contract: the first three numbers are handed on, and `outlook_row` tells the rest. Assumes nothing.
 use mathlib.Core.Path.{ap}
-use borrow.Author.Rules.{rules}
 use Rattle.definitions.specs.Results.{Numbers, numbers_of, OutlookNumbers}
 use Rattle.values.specs.Meanings.{segment_of}
 use Rattle.values.specs.declared.Segment.{Segment}

@@ -1,6 +1,5 @@
 -- `values::rows::segment_of` meets its contract: the first three numbers are handed on, and `outlook_from` tells the rest. Assumes nothing.
 use mathlib.Core.Path.{ap}
-use borrow.Author.Rules.{rules}
 use Rattle.values.specs.Meanings.{segment_of}
 use Rattle.values.specs.Rows.{segment_from}
 use Rattle.values.proofs.rows.segment_of.Goals as goal

@@ -1,6 +1,5 @@
 -- `values::rows::time_from` meets its contract: its test is the definition's. Assumes nothing.
 use mathlib.Core.Path.{refl}
-use borrow.Author.Rules.{rules}
 use borrow.Author.Tests.{lt-ltb, le-ltb}
 use Rattle.definitions.specs.Spans.{no_time}
 use Rattle.values.specs.Meanings.{time_of}
