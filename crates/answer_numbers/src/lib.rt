@@ -1,5 +1,7 @@
 // The answers of the calls as numbers: each function gives 0, or the number of a refusal, and puts what stands beside it into lent numbers.
 // It never reads them, and sets them where the answer accepts alone. The calls as C functions end with these.
+#![tactic(auto)]
+
 ghost use Rattle.std.specs.Prelude.{◌≡◌};
 ghost use Rattle.definitions.specs.Answers.{refusal};
 ghost use Rattle.definitions.specs.Results.{outlook_numbers};
