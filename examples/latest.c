@@ -4,7 +4,7 @@
  * have into which the trace is cut from its start, as segments, and from its end, each run the latest of what is left.
  * There are as many one way as the other.
  *
- *   cc -std=c11 -Iinclude examples/latest.c target/staticlib/libhumoraki.a -o target/latest
+ *   cc -std=c11 -Iinclude examples/latest.c crates/humoraki/out/libhumoraki.a -o target/latest
  *   target/latest samples/example.trace
  */
 #include "humoraki.h"

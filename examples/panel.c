@@ -1,7 +1,7 @@
 /*
  * Puts the ranges of several trace files on one panel, and prints for each head the times of its last segment:
  *
- *   cc -std=c11 -Iinclude examples/panel.c target/staticlib/libhumoraki.a -o target/panel
+ *   cc -std=c11 -Iinclude examples/panel.c crates/humoraki/out/libhumoraki.a -o target/panel
  *   target/panel samples/example.trace samples/dusty.trace samples/wide.trace
  *
  * Files of one address go to one head, the earlier file first; level, direction and step are those of the later file.

@@ -2,7 +2,7 @@
  * Prints what one range more would do to a trace file, before it is added: whether it joins the last segment or begins
  * one, and the last segment's lines and times then.
  *
- *   cc -std=c11 -Iinclude examples/preview.c target/staticlib/libhumoraki.a -o target/preview
+ *   cc -std=c11 -Iinclude examples/preview.c crates/humoraki/out/libhumoraki.a -o target/preview
  *   target/preview samples/example.trace 60 13 16
  */
 #include "humoraki.h"

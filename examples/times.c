@@ -1,7 +1,7 @@
 /*
  * Prints the two times of a trace file's last segment:
  *
- *   cc -std=c11 -Iinclude examples/times.c target/staticlib/libhumoraki.a -o target/times
+ *   cc -std=c11 -Iinclude examples/times.c crates/humoraki/out/libhumoraki.a -o target/times
  *   target/times samples/example.trace
  */
 #include "humoraki.h"

@@ -1,6 +1,6 @@
 //! Prints the two times of a trace file's last segment:
 //!
-//!     rustc --edition 2024 -O examples/times.rs -L target/staticlib -o target/times
+//!     rustc --edition 2024 -O examples/times.rs -L crates/humoraki/out -o target/times
 //!     target/times samples/example.trace
 
 use std::fs::File;

@@ -2,7 +2,7 @@
  * Humoraki: the segments of a smoke detector's trace, when the detector must be serviced, what one range more would do
  * to both, and the latest trend; the ranges of many detectors on one panel.
  *
- * Link with libhumoraki.a, which `rt staticlib humoraki` writes to target/staticlib/.
+ * Link with libhumoraki.a, which `rt lib` in crates/humoraki writes to crates/humoraki/out/.
  *
  * Every function takes any numbers and any slices of any length, ends, and touches nothing but what it was lent.
  * Each gives 0, or the number of a refusal; after a refusal everything that was lent holds its old contents.

@@ -5,7 +5,8 @@
 
 root=$(cd "$(dirname "${BASH_SOURCE[0]}")/.." && pwd)
 target=$root/target
-library=$target/staticlib/libhumoraki.a
+library=$root/crates/humoraki/out/libhumoraki.a
+reporter=$root/crates/report/out/report
 programs=$target/rust/release
 
 say() { echo "$0: $*" >&2; }
@@ -19,30 +20,30 @@ need() { # COMMAND WHAT-IT-IS
   command -v "$1" >/dev/null 2>&1 || fail "$2 is missing: no command '$1' on PATH"
 }
 
-# Whether a file is missing, or older than one of its sources.
-stale() { # FILE SOURCE...
-  local file=$1
-  shift
-  [ ! -e "$file" ] || [ -n "$(find "$@" -type f -newer "$file" -print -quit)" ]
+# Whether a file is missing, or older than one of the crates' sources.
+stale() { # FILE
+  [ ! -e "$1" ] || [ -n "$(find "$root/crates" "$root/crates.txt" \( -name out -o -name must-fail \) -prune -o -type f \
+    -newer "$1" -print -quit)" ]
 }
 
-# Has rt make a file of target/. rt leaves a file alone whose own crates did not change, so a stamp tells when it last
-# looked: at the start of that look, so that an edit made meanwhile is seen.
-prove() { # FILE RT-WORD...
-  local file=$1 stamp=$target/looked/${1##*/}
-  shift
-  if [ -e "$file" ] && ! stale "$stamp" "$root/crates" "$root/crates.txt"; then return; fi
+# Has rt make a file of a crate's out/. rt leaves a file alone whose own crates did not change, so a stamp tells when it
+# last looked: at the start of that look, so that an edit made meanwhile is seen.
+prove() { # CRATE FILE RT-WORD...
+  local crate=$1 file=$root/crates/$1/out/$2 stamp=$target/looked/$2
+  shift 2
+  if ! stale "$file" || [ -e "$file" ] && ! stale "$stamp"; then return; fi
   need rt "the Rattle toolchain"
-  say "running 'rt $*'; the first time, it proves all that this stands on, which takes some minutes"
-  mkdir -p "$(dirname "$stamp")"
+  say "running 'rt $*' in crates/$crate; the first time, it proves all that this stands on, which takes some minutes"
+  mkdir -p "$target/looked"
   touch "$stamp.begun"
-  (cd "$root" && rt "$@") </dev/null >&2 || fail "'rt $*' failed"
+  (cd "$root/crates/$crate" && rt "$@") </dev/null || fail "'rt $*' failed in crates/$crate"
   mv "$stamp.begun" "$stamp"
 }
 
-need_report() { prove "$target/bin/report" check report; }
+# rt also runs the program, on no input: what that prints counts for nothing.
+need_report() { prove report report run >/dev/null; }
 
-need_library() { prove "$library" staticlib humoraki; }
+need_library() { prove humoraki libhumoraki.a lib >&2; }
 
 # Runs cargo on the workspace, with nothing fetched and everything as Cargo.lock has it.
 rust() { # COMMAND WORD...

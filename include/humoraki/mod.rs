@@ -1,7 +1,7 @@
 //! Humoraki for Rust: safe functions over the C interface that `humoraki.h` describes.
 //!
 //! With cargo this is the crate `humoraki`. A program without cargo takes the folder as a module, and tells the
-//! compiler where libhumoraki.a is, which `rt staticlib humoraki` writes to target/staticlib/.
+//! compiler where libhumoraki.a is, which `rt lib` in crates/humoraki writes to crates/humoraki/out/.
 //!
 //! The functions here lend memory of the least length and hand back what was filled, and `panel` has a panel with
 //! memory of its own; the functions of `lent` take memory that the caller lends. What the header asks of a caller holds

@@ -2,8 +2,7 @@
 ghost use Rattle.std.specs.Prelude.{◌≡◌, ◌≤◌, length};
 ghost use Rattle.report.specs.Inputs.{got_of, GotIn, InputIn};
 
-use libc::{EINTR, read};
-use os::errno;
+use std::io::{ErrorKind, Read, Result, Stdin};
 
 // What one read gave: some bytes, and how many; the end of the input; or nothing, because a signal came or it failed.
 #[derive(Clone, Copy)]
@@ -14,32 +13,30 @@ pub enum Got {
     Failed,
 }
 
-// What a read says that gave this answer, so many bytes, and this error number. A read that fails is not the end.
-fn got_of(answer: isize, bytes: usize, error: i32) -> Got
-    ensures { result ≡ got_of answer bytes error }
+// What a read says that gave this answer. A read that fails is not the end.
+fn got_of(answer: Result<usize>) -> Got
+    ensures { result ≡ got_of answer }
 {
-    if answer < 0 {
-        if error == EINTR {
-            Got::Interrupted
-        } else {
-            Got::Failed
+    match answer {
+        Ok(0) => Got::End,
+        Ok(bytes) => Got::Bytes(bytes),
+        Err(error) => {
+            if error.kind() == ErrorKind::Interrupted {
+                Got::Interrupted
+            } else {
+                Got::Failed
+            }
         }
-    } else if bytes == 0 {
-        Got::End
-    } else {
-        Got::Bytes(bytes)
     }
 }
 
 // One read, to the bytes of the buffer from `at` on.
-fn read_at(fd: i32, buffer: &mut [u8], at: usize) -> Got
+fn read_at(input: &mut Stdin, buffer: &mut [u8], at: usize) -> Got
     requires { at ≤ length buffer.old }
     ensures { GotIn at (length buffer.new) result }
 {
-    let answer = read(fd, &mut buffer[at..]);
-    let error = errno();
-    let bytes = io::count(answer, &buffer[at..]);
-    got_of(answer, bytes, error)
+    let answer = input.read(&mut buffer[at..]);
+    got_of(answer)
 }
 
 // All that was read, by its number of bytes, or that it could not be read.
@@ -54,13 +51,13 @@ const MOST_INTERRUPTIONS: usize = 4096;
 
 // Reads until the buffer is full or the input ends. Where a read fails before that, nobody knows where the input would
 // have ended, so what came of it until then is not taken for the whole.
-pub fn read_input(fd: i32, buffer: &mut [u8]) -> Input
+pub fn read_input(input: &mut Stdin, buffer: &mut [u8]) -> Input
     ensures { InputIn (length buffer.new) result }
 {
     let mut size = 0;
     let mut interruptions = 0;
     while size < buffer.len() {
-        let got = read_at(fd, buffer, size);
+        let got = read_at(input, buffer, size);
         match got {
             Got::Bytes(more) => size += more,
             Got::End => return Input::Whole(size),

@@ -1,31 +1,48 @@
 // Prints the report of the trace file on standard input. What it prints is proved in `report_text`; here it is only read and written.
+#![tactic(auto)]
+
+ghost use Rattle.std.specs.Prelude.{◌≡◌, length};
+
 mod input; // input.rt: standard input, read to its end
 
 use input::{Input, read_input};
-use libc::{STDERR_FILENO, STDIN_FILENO, STDOUT_FILENO};
 use report_text::{REPORT_ROOM, ReportAnswer, report};
 
+// The most bytes of standard input that are read: more than any trace file has.
+const MOST_READ: usize = 65536;
+
+// Zeros, as many as a report has bytes at most.
+fn empty_text() -> [u8; REPORT_ROOM]
+    ensures { length result ≡ 524544 }
+{
+    [0; REPORT_ROOM]
+}
+
 // Prints the report of a file.
-fn print_report(file: &[u8]) {
-    let mut text = [0u8; REPORT_ROOM];
+fn print_report(rt: &HostRuntime, file: &[u8]) {
+    let mut text = empty_text();
     let answer = report(file, &mut text);
     // The text is long enough, so there is a report, and this never returns here.
     let ReportAnswer::Accepted(count) = answer else {
         return;
     };
-    if !io::write_all(STDOUT_FILENO, &text[..count]) {
-        io::write_all(STDERR_FILENO, b"report: standard output takes no more\n");
+    if rt.stdout().write_all(&text[..count]).is_err() {
+        let _ = rt
+            .stderr()
+            .write_all(b"report: standard output takes no more\n");
     }
 }
 
 // A file that could not be read whole has no report: nothing is printed on standard output.
-fn main() {
-    let mut file = io::large_buffer();
-    let input = read_input(STDIN_FILENO, &mut file);
+fn main(rt: HostRuntime) {
+    let mut file = [0u8; MOST_READ];
+    let input = read_input(&mut rt.stdin(), &mut file);
     match input {
-        Input::Whole(size) => print_report(&file[..size]),
+        Input::Whole(size) => print_report(&rt, &file[..size]),
         Input::Failed => {
-            io::write_all(STDERR_FILENO, b"report: standard input cannot be read\n");
+            let _ = rt
+                .stderr()
+                .write_all(b"report: standard input cannot be read\n");
         }
     }
 }
