@@ -1,0 +1,20 @@
+-- `report_text::trace_text::put_segments` meets its contract. The invariant is `Told`: the lines of the first j rows are put. What shrinks is the number of rows that are left. Assumes nothing.
+use Prim.Native.Nat.{◌+◌, ◌-◌}
+use mathlib.Core.Path.{ap, ◌∙◌, subst}
+use native.Mathlib.Omega.{arith}
+use Rattle.definitions.specs.Report.{segment_line}
+use Rattle.text.specs.Put.{Put}
+use Rattle.text.specs.PutLaws.{put_length}
+use Rattle.values.specs.Rows.{segment_from}
+use Rattle.drift.specs.Columns.{Columns, columns, row_at}
+use Rattle.drift.specs.ColumnLaws.{room-less}
+use Rattle.report_text.specs.RowLaws.{Told, told_none, told_room, told_next, told_all}
+use Rattle.report_text.proofs.trace_text.put_segments.Given as goal
+
+abbrev pub invariant-loop-j : goal.invariant-loop-j
+invariant-loop-j l =
+    Told l.from (columns l.first_times l.last_times l.counts l.slow_ps l.slow_qs l.slow_ds l.fast_ps l.fast_qs l.fast_ds l.somes l.alls) l.rows l.initial.text l.j l.at l.text
+
+abbrev pub decreases-loop-j : goal.decreases-loop-j
+decreases-loop-j l =
+    l.rows - l.j
