@@ -1,4 +1,6 @@
 // Write and Read, one after the other: what was given comes back. No function here asks anything of its caller.
+#![tactic(auto)]
+
 ghost use Rattle.round_trip.specs.Promises.{WriteReadPromise, ReadWritePromise};
 
 use trace::{ReadAnswer, WriteAnswer, read, write};
