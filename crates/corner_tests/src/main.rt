@@ -2,6 +2,8 @@
 // whether the slices past them are as they were. A digest stands for all numbers of all corners, as of a long answer only
 // some are written.
 // The stored output was found by brute force; `compare/run --answers corners <crates/corner_tests/stdin` prints it.
+#![tactic(auto)]
+
 mod answers; // answers.rt: a call of Corners, and what is written of its answer
 mod long; // long.rt: traces by formula
 mod trials; // trials.rt: traces from text

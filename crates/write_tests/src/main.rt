@@ -1,5 +1,7 @@
 // Write on lists made here: a line for each trial, with the answer and the lent bytes after it, and what is read back.
 // A digest stands for the bytes, so that one that should not have changed shows.
+#![tactic(auto)]
+
 mod answers; // answers.rt: a call of Write, what is written of its answer, and what is read back
 mod lists; // lists.rt: lists and slices of different lengths
 mod values; // values.rt: values at the ends of their spans, and past them
