@@ -1,6 +1,8 @@
 // What other languages link: the calls on numbers and slices. Each gives 0, or the number of a refusal,
 // and puts its counts, records and outlooks into lent numbers: it never reads them, and sets them on success alone.
 // Each hands its slices on to the call below, and the lent numbers to the function of `answer_numbers` that tells the call's answer.
+#![tactic(auto)]
+
 ghost use Rattle.drift.specs.Columns.{columns};
 ghost use Rattle.answer_numbers.specs.Told.{eight};
 ghost use Rattle.humoraki.specs.Promises.{AfterRead, AfterWrite, AfterSegment, AfterCorners, AfterPreview, AfterLatest, AfterReport, AfterAdd, AfterHeadRanges};

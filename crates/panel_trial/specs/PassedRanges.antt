@@ -1,7 +1,7 @@
 -- A range that is passed on to a function: its low and high go as machine words, and are read back as they were.
 --
 --     passed_on      the range as the function reads it
---     read-back     it is the range
+--     read_back      it is the range
 --
 -- Assumes nothing.
 use Rattle.std.specs.Prelude.{◌≡◌}

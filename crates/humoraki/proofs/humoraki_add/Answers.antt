@@ -1,6 +1,5 @@
 -- `humoraki::humoraki_add` meets its contract: the call below changes the panel, and its answer is told as a number. Assumes nothing.
 use Rattle.std.proofs.Common.{ℕ, ℤ, ◌≡◌, sym, to_z-of_z}
-use Rattle.definitions.specs.Ranges.{Range}
 use Rattle.definitions.specs.Panels.{Panel}
 use Rattle.panel.specs.declared.AddAnswer.{AddAnswer}
 use Rattle.panel.specs.Promises.{AddPromise}

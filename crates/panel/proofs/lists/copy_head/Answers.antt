@@ -1,5 +1,4 @@
 -- Proof of `panel::lists::copy_head`: the loop's invariant is `Going`. Assumes nothing.
-use native.Mathlib.Omega.{arith}
 use Rattle.panel.specs.Copies.{going, goes_on, gone}
 use Rattle.definitions.specs.Ranges.{Lists}
 use Rattle.panel.proofs.lists.copy_head.Goals.{At-loop-k, Start}
@@ -11,21 +10,8 @@ lent c = record { times = c.args.into_times.now; lows = c.args.into_lows.now; hi
 pub loop-k-init : goal.loop-k-init
 loop-k-init c = let args = c.args in going args.address args.addresses.now args.times.now args.lows.now args.highs.now (lent (goal.at.loop-k-init c).Start)
 
-pub copy_if-requires : goal.copy_if-requires
-copy_if-requires c =
-    let inside = c.loop-k-test.true in
-    let same = c.requires in
-    let ts = same.times in
-    let us = same.lows in
-    let vs = same.highs in
-    record { in_times = omega (arith, inside, ts); in_lows = omega (arith, inside, us); in_highs = omega (arith, inside, vs) }
-
-pub after-at-requires : goal.after-at-requires
-after-at-requires c = let g = c.loop-k.invariant.at_most in let l = c.loop-k-test.true in omega (arith, g, l)
-
 pub loop-k-preserved : goal.loop-k-preserved
 loop-k-preserved c =
-    let at = (goal.at.loop-k-preserved c).At-loop-k in
     let start = (goal.at.loop-k-preserved c).Start in
     let args = c.args in
     goes_on args.address args.addresses.now args.times.now args.lows.now args.highs.now (lent start) (record { times = c.loop-k.into_times; lows = c.loop-k.into_lows; highs = c.loop-k.into_highs }) _ c.loop-k.at c.after-at.result c.loop-k.k c.requires c.loop-k-test.true c.loop-k.invariant
@@ -34,7 +20,6 @@ loop-k-preserved c =
 
 pub returns : goal.returns
 returns c =
-    let at = (goal.at.returns c).At-loop-k in
     let start = (goal.at.returns c).Start in
     let args = c.args in
     gone args.address args.addresses.now args.times.now args.lows.now args.highs.now (lent start) (record { times = c.loop-k.into_times; lows = c.loop-k.into_lows; highs = c.loop-k.into_highs }) c.loop-k.at c.loop-k.k c.loop-k-test.false c.loop-k.invariant

@@ -81,7 +81,6 @@ try_panel-number-requires c =
 number-plain : (c : After-try_panel-number) → let start = (goal.at.After-try_panel-number c).Start in c.try_panel-number.result ≡ list_number c.args.table (lent start) c.args.address (lengths_of (into start))
 unfolding number_by panel_trial room_of lengths_of
 number-plain c =
-    let start = (goal.at.After-try_panel-number c).Start in
     let said : ◌≡◌ {A = ℕ} c.try_panel-number.result _ = c.try_panel-number.ensures in
     said ∙ ap₂ (λ short n. refusal (firstRow (panel_trial short (ltb 64 c.args.table.count || bad_panel (entries_of (take n c.args.table.addresses) (take n c.args.table.held)) (take (total_held (entries_of (take n c.args.table.addresses) (take n c.args.table.held))) c.args.addresses.now)) c.args.address (entries_of (take n c.args.table.addresses) (take n c.args.table.held))))) (short_is (goal.at.After-try_panel-number c).After-short_three-filled) c.heads_in-few.ensures
 
@@ -100,14 +99,6 @@ slice_bounds-held-end-2 c = (within (goal.at.slice_bounds-held-end-2 c).Start _ 
 
 pub slice_bounds-total_of-end : goal.slice_bounds-total_of-end
 slice_bounds-total_of-end c = sym (length-take-le _ c.args.table.held (within (goal.at.slice_bounds-total_of-end c).Start _ c.heads_in-few.ensures).1)
-
-pub total_of-total-requires : goal.total_of-total-requires
-total_of-total-requires c =
-    let t = c.args.table in
-    let is = c.heads_in-few.ensures in
-    let f = heads-few t.count in
-    let m = length-take-le _ t.held (within (goal.at.total_of-total-requires c).Start _ is).1 in
-    omega (arith, f, is, m)
 
 -- the places held, and that there is room for them
 

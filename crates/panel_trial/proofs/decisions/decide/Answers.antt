@@ -14,9 +14,6 @@ use Rattle.panel_trial.specs.PassedRanges.{passed_on, read_back}
 use Rattle.panel_trial.proofs.decisions.decide.Goals.{Else-number-ne0, Start}
 use Rattle.panel_trial.proofs.decisions.decide.Goals as goal
 
-pub try_panel-number-requires : goal.try_panel-number-requires
-try_panel-number-requires c = λ long. (c.requires long).heads_are
-
 pub returns-then-number-ne0 : goal.returns-then-number-ne0
 returns-then-number-ne0 c =
     let told = ap (λ d. d.number) c.turned_down.ensures in

@@ -17,9 +17,6 @@ returns-then-short c = sym (ap refusal (row-holds 8 _ c.if-short.true))
 pub returns-then-many : goal.returns-then-many
 returns-then-many c = sym (panel-bad _ _ _ _ c.if-short.false (hit c.if-many.true _))
 
-pub panel_bad-bad-requires : goal.panel_bad-bad-requires
-panel_bad-bad-requires c = c.requires c.if-short.false
-
 pub returns-then-bad : goal.returns-then-bad
 returns-then-bad c = sym (panel-bad _ _ _ _ c.if-short.false (pass c.if-many.false _ ∙ sym c.panel_bad-bad.ensures ∙ c.if-bad.true))
 

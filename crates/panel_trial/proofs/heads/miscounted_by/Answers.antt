@@ -2,22 +2,13 @@
 use Prim.Native.Nat.{suc}
 use native.Mathlib.Numerals.{add-one}
 use native.Mathlib.Omega.{arith}
-use mathlib.Core.Path.{refl, sym, ap, ◌∙◌}
+use mathlib.Core.Path.{sym, ap, ◌∙◌}
 use mathlib.Core.Bool.{not, ◌||◌}
 use lib.ListN.{get_or, drop, drop_of_length-le}
 use borrow.Author.Tests.{eq-eqb, ne_eqb}
 use Rattle.panel_laws.specs.Tallies.{miscounted_as, miscounted_by, miscounted-from}
 use Rattle.panel_trial.proofs.heads.miscounted_by.Goals.{At-loop-k, Start}
 use Rattle.panel_trial.proofs.heads.miscounted_by.Goals as goal
-
-pub loop-k-init : goal.loop-k-init
-loop-k-init c = (omega arith, refl)
-
-pub offset_bounds-held-k : goal.offset_bounds-held-k
-offset_bounds-held-k c = let h = c.requires in omega (arith, h)
-
-pub bounds-held-k : goal.bounds-held-k
-bounds-held-k c = let h = c.requires in omega (arith, h)
 
 pub returns-then-counted-held : goal.returns-then-counted-held
 returns-then-counted-held c =

@@ -2,7 +2,7 @@
 use Prim.Native.Nat.{suc}
 use native.Mathlib.Numerals.{add-one}
 use native.Mathlib.Omega.{arith}
-use mathlib.Core.Path.{refl, sym, ap, ◌∙◌}
+use mathlib.Core.Path.{sym, ap, ◌∙◌}
 use mathlib.Core.Bool.{◌||◌}
 use lib.ListN.{drop, drop_of_length-le}
 use Rattle.definitions.specs.Trial.{bad_address}
@@ -10,9 +10,6 @@ use Rattle.panel_laws.specs.Tallies.{any-from}
 use Rattle.integers.specs.Lists.{any}
 use Rattle.panel_trial.proofs.heads.some_outside.Goals.{At-loop-k}
 use Rattle.panel_trial.proofs.heads.some_outside.Goals as goal
-
-pub loop-k-init : goal.loop-k-init
-loop-k-init c = (omega arith, refl)
 
 pub returns-then-outside : goal.returns-then-outside
 returns-then-outside c =

@@ -2,7 +2,7 @@
 use Prim.Native.Nat.{ℕ, suc, ◌+◌, ◌-◌, ◌<◌, ◌≤◌}
 use native.Mathlib.Numerals.{add-one}
 use native.Mathlib.Omega.{arith}
-use mathlib.Core.Path.{◌≡◌, refl, sym, ap, ◌∙◌}
+use mathlib.Core.Path.{◌≡◌, sym, ap, ◌∙◌}
 use mathlib.Core.Bool.{true, false, ◌||◌}
 use mathlib.Core.List.{List}
 use lib.ListN.{length, get_or, take, drop, length-drop, drop_of_length-le}
@@ -11,9 +11,6 @@ use borrow.Author.Tests.{lt-ltb, le-ltb}
 use Rattle.panel_laws.specs.Tallies.{first_place, among, twice_in, twice-from}
 use Rattle.panel_trial.proofs.heads.twice_in.Goals.{At-loop-k}
 use Rattle.panel_trial.proofs.heads.twice_in.Goals as goal
-
-pub loop-k-init : goal.loop-k-init
-loop-k-init c = (omega arith, refl)
 
 -- the later part, as the code takes it
 

@@ -2,9 +2,8 @@
 use Prim.Native.Nat.{◌-◌}
 use native.Mathlib.Numerals.{add-one}
 use native.Mathlib.Omega.{arith}
-use mathlib.Core.Path.{refl, ap, ◌∙◌}
+use mathlib.Core.Path.{refl, ap}
 use lib.ListN.{take}
-use lib.Seq.{take_all}
 use Rattle.definitions.specs.Spans.{sure_places}
 use Rattle.panel_laws.specs.Tallies.{sum_by, above_sure, sum-take}
 use Rattle.panel_trial.proofs.tallies.common_of.Goals as goal
@@ -24,6 +23,3 @@ loop-k-preserved c =
     let next = ap (λ i. above_sure (take i xs)) (add-one k) in
     let more = sum-take (λ x. x - sure_places) k xs c.loop-k-test.true in
     (omega arith, (omega (arith, g, s, b), omega (arith, g, sum_is, next, more)))
-
-pub returns : goal.returns
-returns c = c.loop-k.invariant.1.1 ∙ ap above_sure (take_all c.loop-k.k c.args.held.now c.loop-k-test.false)

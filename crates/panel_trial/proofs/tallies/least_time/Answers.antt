@@ -5,19 +5,11 @@ use mathlib.Core.Path.{◌≡◌, sym, ap, ◌∙◌}
 use mathlib.Core.List.{List}
 use lib.Dec.{eqb}
 use lib.ListN.{length, get_or, take}
-use lib.Seq.{take_all}
 use borrow.Author.Tests.{eq-eqb, ne_eqb}
 use Rattle.definitions.specs.Panels.{either}
 use Rattle.panel_laws.specs.Tallies.{least_from, least-take}
 use Rattle.panel_trial.proofs.tallies.least_time.Goals.{At-loop-k, In-loop-k}
 use Rattle.panel_trial.proofs.tallies.least_time.Goals as goal
-
-pub loop-k-init : goal.loop-k-init
-loop-k-init c =
-    let bs = c.args.addresses.now in
-    let ts = c.args.times.now in
-    let same = c.requires in
-    (omega arith, sym (ap (λ xs. least_from c.args.address 0 xs (take (length bs) ts)) (take_all (length bs) bs (omega arith)) ∙ ap (least_from c.args.address 0 bs) (take_all (length bs) ts (omega (arith, same)))))
 
 -- the k-th last, of k that are left
 

@@ -8,9 +8,6 @@ use Rattle.panel_laws.specs.Tallies.{first_place, place_here, place-later}
 use Rattle.panel_trial.proofs.tallies.place_of.Goals.{At-loop-k}
 use Rattle.panel_trial.proofs.tallies.place_of.Goals as goal
 
-pub loop-k-init : goal.loop-k-init
-loop-k-init c = (omega arith, omega arith)
-
 pub returns-then-addresses-k : goal.returns-then-addresses-k
 returns-then-addresses-k c =
     let args = c.args in

@@ -2,23 +2,12 @@
 use Prim.Native.Nat.{ℕ, ◌+◌, ◌<◌}
 use native.Mathlib.Numerals.{add-one}
 use native.Mathlib.Omega.{arith}
-use mathlib.Core.Path.{◌≡◌, refl, sym, ap, ap₂, ◌∙◌}
+use mathlib.Core.Path.{◌≡◌, sym, ap, ap₂, ◌∙◌}
 use mathlib.Core.List.{List}
 use lib.ListN.{length, length-set, get_or, drop, drop_of_length-le}
 use Rattle.panel_laws.specs.Tallies.{incremented, tallied, tallied-from, incremented-bound}
 use Rattle.panel_trial.proofs.tallies.tally.Goals.{At-loop-k}
 use Rattle.panel_trial.proofs.tallies.tally.Goals as goal
-
-pub loop-k-init : goal.loop-k-init
-loop-k-init c = (omega arith, (refl, ((λ i. let z = c.requires.1 i in omega (arith, z)), refl)))
-
-pub count_in-requires : goal.count_in-requires
-count_in-requires c =
-    let args = c.args in
-    let few = c.requires.0 in
-    let bound = c.loop-k.invariant.1.1.0 (get_or args.addresses.now c.loop-k.k 0) in
-    let in_List = c.loop-k.invariant.0 in
-    omega (arith, few, bound, in_List)
 
 same_counts : (cs : List ℕ) (x : ℕ) → length (incremented cs x) ≡ length cs
 unfolding incremented
@@ -42,9 +31,6 @@ loop-k-preserved c =
         ),
       ),
     )
-
-pub shape_of-counts : goal.shape_of-counts
-shape_of-counts c = c.loop-k.invariant.1.0
 
 pub returns : goal.returns
 unfolding tallied

@@ -1,9 +1,8 @@
 -- Proof of `panel_trial::tallies::total_of`. The loop's invariant: the sum is that of the first k numbers, which is below k · 2^32. Assumes nothing.
 use native.Mathlib.Numerals.{add-one}
 use native.Mathlib.Omega.{arith}
-use mathlib.Core.Path.{refl, ap, ◌∙◌}
+use mathlib.Core.Path.{refl, ap}
 use lib.ListN.{take}
-use lib.Seq.{take_all}
 use Rattle.panel_laws.specs.Tallies.{sum_by, sum_of, sum-take}
 use Rattle.panel_trial.proofs.tallies.total_of.Goals as goal
 
@@ -21,6 +20,3 @@ loop-k-preserved c =
     let next = ap (λ i. sum_of (take i xs)) (add-one k) in
     let more = sum-take (λ x. x) k xs c.loop-k-test.true in
     (omega arith, (omega (arith, s, b), omega (arith, sum_is, next, more)))
-
-pub returns : goal.returns
-returns c = c.loop-k.invariant.1.1 ∙ ap sum_of (take_all c.loop-k.k c.args.held.now c.loop-k-test.false)
