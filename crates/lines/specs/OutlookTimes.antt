@@ -25,8 +25,10 @@ use Rattle.integers.specs.Quotes.{quotes, ring! }
 use Rattle.integers.specs.Booleans.{or_left, or_right}
 use Rattle.integers.specs.Lists.{all, any, All, Any, any_means, any_passes, all_means, all_passes, All_in}
 use Rattle.integers.specs.Least.{IsLeast, nowhere, least-unique, AtAnEnd}
-use Rattle.integers.specs.Multiples.{LeastMultiple, from_turn, to_turn, first_multiple, from_turns, first_multiple_least, multiple-iff}
-use Rattle.integers.specs.Crossing.{reaches_iff, reach_never}
+use Rattle.integers.specs.Multiples.{LeastMultiple, from_turn, to_turn, first_multiple, from_turns, multiple-iff}
+use Rattle.integers.proofs.Multiples.{first_multiple_least}
+use Rattle.integers.specs.Crossing.{reach_never}
+use Rattle.integers.proofs.Crossing.{reaches_iff}
 use Rattle.definitions.specs.Services.{Service, direction_of}
 use Rattle.definitions.specs.Spans.{most_time}
 use Rattle.definitions.specs.Times.{Time}
