@@ -51,6 +51,7 @@ use Rattle.splits.specs.OrderedRanges.{first_time_of, last_time_of}
 use Rattle.splits.specs.RunTimes.{in_span}
 use Rattle.splits.specs.Segments.{TimesOf, TwoWithout}
 use Rattle.splits.specs.Segments as Splits
+use Rattle.splits.proofs.Segments as SplitsAbove
 use Rattle.chains.specs.Results.{two_have_line}
 use Rattle.lines.specs.LineOrder.{Positive}
 use Rattle.lines.specs.HasLine.{every-slope}
@@ -146,22 +147,22 @@ module _ (rs : List Range) (o : Ordered rs) where
   segments_ranges = Splits.segments_ranges decides rs o
 
   pub segments_ahead : (runs : List (List Range)) → Split HasLine rs runs → (j : ℕ) → j < length runs → j < length (segments rs) → last_time_of (get_or runs j []) ≤ last_time_of (get_or (segments rs) j [])
-  segments_ahead runs = Splits.segments_ahead_times decides rs runs o
+  segments_ahead runs = SplitsAbove.segments_ahead_times decides rs runs o
 
   pub segments_ahead_count : (runs : List (List Range)) → Split HasLine rs runs → (j : ℕ) → end_of j runs ≤ end_of j (segments rs)
-  segments_ahead_count runs = Splits.segments_ahead decides rs runs o
+  segments_ahead_count runs = SplitsAbove.segments_ahead decides rs runs o
 
   pub segments_fewest : (runs : List (List Range)) → Split HasLine rs runs → length (segments rs) ≤ length runs
-  segments_fewest runs = Splits.segments_fewest decides rs runs o
+  segments_fewest runs = SplitsAbove.segments_fewest decides rs runs o
 
   pub segments_close : (before : List (List Range)) (run : List Range) (w : Range) (more : List Range) (after : List (List Range)) → segments rs ≡ before ++ (run ∷ (w ∷ more) ∷ after) → TwoWithout run w
   segments_close before run w more after = Splits.segments_close decides closes rs before run w more after o
 
   pub segments_room : length rs ≤ most_ranges → length (segments rs) ≤ segment_room
-  segments_room = Splits.segments_room decides two-ranges rs o
+  segments_room = SplitsAbove.segments_room decides two-ranges rs o
 
   pub segments_back : length (cut (λ run. has_line (reverse run)) (reverse rs)) ≡ length (segments rs)
-  segments_back = Splits.segments_back decides rs o
+  segments_back = SplitsAbove.segments_back decides rs o
 
   pub running_has_line : (k : ℕ) → 0 < k → k ≤ length rs → GoodRun HasLine (running_after k rs)
   running_has_line k = Splits.running_good decides k rs o
