@@ -29,7 +29,8 @@ use Rattle.definitions.specs.Mirrors.{mirrored_line, mirrored_range, opposite, m
 use Rattle.splits.specs.OrderedRanges.{last_time_of}
 use Rattle.chains.specs.Points.{SlopeAtMost}
 use Rattle.chains.specs.Mirror.{neg_l_neg_l, neg_slope≤}
-use Rattle.chains.specs.Results.{slow, fast, corner_list, slow_fits, fast_fits, slow_least, fast_greatest, slow_only, fast_only, slow_listed, fast_listed, corners_fit, corners_candidates}
+use Rattle.chains.specs.Results.{slow, fast, corner_list, slow_listed}
+use Rattle.chains.proofs.Results.{slow_fits, fast_fits, slow_least, fast_greatest, slow_only, fast_only, fast_listed, corners_fit, corners_candidates}
 use Rattle.lines.specs.LineOrder.{Proper, same_refl, same-sym, same-trans, reduced_same, reduced_proper, reduced-alike, reduced-is, Restates, reduced_restates, restates_refl, restates_sym, InFit_same, slope-same, order-≤, before_means, Precedes, by_slope_is, by_intercept}
 use Rattle.lines.specs.FittingLines.{in_fitting, fitting_rising, fitting_proper, fitting_fit}
 use Rattle.lines.specs.OutlookTimes.{rises, Listed, reach_time, reach_time-same, some_least, all_least, some_by_fast, all_by_slow}

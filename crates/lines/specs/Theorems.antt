@@ -52,7 +52,7 @@ use Rattle.splits.specs.RunTimes.{in_span}
 use Rattle.splits.specs.Segments.{TimesOf, TwoWithout}
 use Rattle.splits.specs.Segments as Splits
 use Rattle.splits.proofs.Segments as SplitsAbove
-use Rattle.chains.specs.Results.{two_have_line}
+use Rattle.chains.proofs.Results.{two_have_line}
 use Rattle.lines.specs.LineOrder.{Positive}
 use Rattle.lines.specs.HasLine.{every-slope}
 use Rattle.lines.specs.OneRange.{no_corner}
