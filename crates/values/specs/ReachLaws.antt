@@ -43,7 +43,8 @@ use Rattle.definitions.specs.Lines.{Line, reading}
 use Rattle.definitions.specs.Corners.{reduced}
 use Rattle.definitions.specs.Fit.{Reaches}
 use Rattle.definitions.specs.Outlook.{has_reached, lines}
-use Rattle.lines.specs.OutlookTimes.{reach_time, rises, paced, paced-reading, paced-reaches, reach_time_least}
+use Rattle.lines.specs.OutlookTimes.{reach_time, rises, paced, paced-reading, paced-reaches}
+use Rattle.lines.proofs.OutlookTimes.{reach_time_least}
 use Rattle.lines.specs.RunOutlook.{leading, trailing}
 use Rattle.trial_laws.specs.Accepted.{GoodStep}
 use Rattle.values.specs.declared.Line.{Line as LineValue}
