@@ -2,9 +2,9 @@
 --
 --     candidate            the line through an end of a range and an end of a later range is a candidate
 --     ends-candidate       so is, up to a common factor, every line through two ends
---     candidate_ends       every candidate goes through two ends
 --     candidate_positive   its d is above 0
 --
+-- Further laws stand in proofs/Candidates.antt.
 -- Assumes nothing.
 use Rattle.std.proofs.Common.{sym, subst, inl, inr, arith}
 use Rattle.std.specs.Prelude.{refl, ◌≡◌, List, [], ◌∷◌, ◌++◌, ◌⊎◌, ℕ, ◌<◌, ℤ, ◌<ℤ◌}
@@ -13,8 +13,7 @@ use Rattle.integers.specs.Lists.{here, there, All, nil, cons, All_in, Any, Any_h
 use Rattle.definitions.specs.Ranges.{Range}
 use Rattle.definitions.specs.Lines.{Line, through, through_ends, candidates_from, candidates}
 use Rattle.definitions.specs.Fit.{Ordered}
-use Rattle.chains.specs.Points.{Point, Touches, through-first, through-second}
-use Rattle.chains.specs.TwoEnds.{IsEnd, ThroughTwoEnds, joined_ends, through-positive, touches_reading}
+use Rattle.chains.specs.TwoEnds.{IsEnd, ThroughTwoEnds, joined_ends, through-positive}
 
 -- ---- the line through two ends is a candidate
 in_ends : (r s : Range) (u v : ℤ) → IsEnd r u → IsEnd s v → In (through r.time u s.time v) (through_ends r s)
@@ -51,12 +50,12 @@ ends-candidate {rs} t o = candidate rs o t.first t.second t.first_in t.second_in
 
 -- ---- a candidate goes through two ends
 -- k is the line through an end of r and an end of s
-record Joins (r s : Range) (k : Line) : Type 0 where
-  first_value : ℤ
-  second_value : ℤ
-  first_end : IsEnd r first_value
-  second_end : IsEnd s second_value
-  is : k ≡ through r.time first_value s.time second_value
+pub record Joins (r s : Range) (k : Line) : Type 0 where
+  pub first_value : ℤ
+  pub second_value : ℤ
+  pub first_end : IsEnd r first_value
+  pub second_end : IsEnd s second_value
+  pub is : k ≡ through r.time first_value s.time second_value
 
 ends-all : (r s : Range) → All (Joins r s) (through_ends r s)
 unfolding through_ends
@@ -73,15 +72,15 @@ from_all r [] = nil
 from_all r (s ∷ rs) = All-append (All_imp (λ k. Any_here) (ends-all r s)) (All_imp (λ k. Any_there) (from_all r rs))
 
 -- the two ranges of a candidate
-record Between (rs : List Range) (k : Line) : Type 0 where
-  first : Range
-  second : Range
-  first_in : In first rs
-  second_in : In second rs
-  earlier : first.time < second.time
-  joins : Joins first second k
+pub record Between (rs : List Range) (k : Line) : Type 0 where
+  pub first : Range
+  pub second : Range
+  pub first_in : In first rs
+  pub second_in : In second rs
+  pub earlier : first.time < second.time
+  pub joins : Joins first second k
 
-between-all : (rs : List Range) → Ordered rs → All (Between rs) (candidates rs)
+pub between-all : (rs : List Range) → Ordered rs → All (Between rs) (candidates rs)
 unfolding candidates
 between-all [] o = nil
 between-all (r ∷ rs) o = All-append (All_imp with_first (from_all r rs)) (All_imp later (between-all rs o.2))
@@ -93,27 +92,6 @@ between-all (r ∷ rs) o = All-append (All_imp with_first (from_all r rs)) (All_
     later k b = record { first = b.first; second = b.second; first_in = there b.first_in; second_in = there b.second_in; earlier = b.earlier; joins = b.joins }
 
 module _ (rs : List Range) (o : Ordered rs) (k : Line) (i : In k (candidates rs)) where
-  pub candidate_ends : ThroughTwoEnds rs k
-  unfolding through
-  candidate_ends =
-      let b = All_in (between-all rs o) i in
-      let j = b.joins in
-      let A : Point = record { t = pos b.first.time; u = j.first_value } in
-      let B : Point = record { t = pos b.second.time; u = j.second_value } in
-      record {
-        first = b.first;
-        second = b.second;
-        first_in = b.first_in;
-        second_in = b.second_in;
-        earlier = b.earlier;
-        first_value = j.first_value;
-        second_value = j.second_value;
-        first_end = j.first_end;
-        second_end = j.second_end;
-        on_first = touches_reading k b.first.time j.first_value (subst (λ l. Touches l A) (sym j.is) (through-first A B));
-        on_second = touches_reading k b.second.time j.second_value (subst (λ l. Touches l B) (sym j.is) (through-second A B));
-      }
-
   pub candidate_positive : pos 0 <ℤ k.d
   candidate_positive =
       let b = All_in (between-all rs o) i in

@@ -2,38 +2,35 @@
 --
 --     neg-fits_range         the image of a line fits the image of a range that the line fits
 --     Closed rs r            two ranges of rs that have no line together with r
---     closes_high, closes_low   slow is above r's high end, or fast is below r's low end: r closes rs
 --     closed_none            no line fits rs and r; closed-map: of a run with the same ranges
---     Verdict, verdict       r joins, and the polygon is known again, or it closes
+--     Verdict   r joins, and the polygon is known again, or it closes
 --     Later, InOrder         the run's ranges, the last one first, in order: no low above its high, times that fall strictly along the list
 --     run_of r s ws           the run r, s, and then ws, the last one first
 --     polygon_of r s ws       its polygon: the start from r and s, and each of ws joined
 --     last_time, run-until, last-earlier   the time of the last range, which no range of the run passes; a later range is after it
---     run-state              a run in order that has a line has its polygon
 --
+-- Further laws stand in proofs/Closing.antt.
 -- Assumes nothing.
-use Rattle.std.proofs.Common.{subst, ◌∙◌, ap, inl, inr, arith}
-use Rattle.std.specs.Prelude.{◌≡◌, refl, List, [], ◌∷◌, ◌⊎◌, ℕ, ◌<◌, ◌≤◌, pos, ◌≤ℤ◌, ◌<ℤ◌}
-use Rattle.integers.specs.OrderLaws.{≤ℤ_or_<ℤ}
+use Rattle.std.proofs.Common.{subst, ◌∙◌, ap, arith}
+use Rattle.std.specs.Prelude.{◌≡◌, List, [], ◌∷◌, ℕ, ◌<◌, ◌≤◌, pos, ◌≤ℤ◌, ◌<ℤ◌}
 use Rattle.integers.specs.Lists.{In, All, nil, cons, All_in, All-head, All-tail, All_imp}
 use Rattle.definitions.specs.Ranges.{Range}
 use Rattle.definitions.specs.Lines.{Line}
 use Rattle.definitions.specs.Fit.{FitsRange, InFit, HasLine}
 use Rattle.chains.specs.Points.{gap, Touches, Point}
-use Rattle.chains.specs.Mirror.{neg_p, negL, negR, neg_touches, neg_under, neg_over, neg_below, image_touches}
+use Rattle.chains.specs.Mirror.{negL, negR, neg_touches, neg_under, neg_over, neg_below}
 use Rattle.chains.specs.Ends.{H, L, under_H, over_L, fits_range_is, time<, time≤, un-time<}
 use Rattle.chains.specs.Extremes.{closed}
 use Rattle.chains.specs.Chain.{Polygon}
-use Rattle.chains.specs.State.{state-slow, state-fast, state_slow_ends, state_fast_ends}
-use Rattle.chains.specs.Run.{source, Until, RunState, join, joined, EndOf}
-use Rattle.chains.specs.Start.{start, started}
+use Rattle.chains.specs.Run.{source, Until, RunState, join, EndOf}
+use Rattle.chains.specs.Start.{start}
 
 -- ---- no line fits three ranges
-abbrev NoLine : Range → Range → Range → Type 0
+abbrev pub NoLine : Range → Range → Range → Type 0
 NoLine i j r = (l : Line) → pos 0 <ℤ l.d → FitsRange l i → FitsRange l j → FitsRange l r → ⊥
 
 -- s touches the high end of i and the low end of the later j, and is above the high end of r
-no_line-above : (s : Line) (i j r : Range) → pos 0 <ℤ s.d → i.time < j.time → j.time ≤ r.time → Touches s (H i) → Touches s (L j) → pos 0 <ℤ gap s (H r)
+pub no_line-above : (s : Line) (i j r : Range) → pos 0 <ℤ s.d → i.time < j.time → j.time ≤ r.time → Touches s (H i) → Touches s (L j) → pos 0 <ℤ gap s (H r)
     → NoLine i j r
 no_line-above s i j r s-over lt le a b k l l-over f g h =
     closed s l (H i) (L j) s-over l-over (time< _ _ lt) a b (under_H f) (over_L g) (H r) (time≤ _ _ le) k (under_H h)
@@ -42,7 +39,7 @@ pub neg-fits_range : {l : Line} {r : Range} → FitsRange l r → FitsRange (neg
 neg-fits_range {l} {r} f = fits_range_is (neg_under l (H r) (under_H f)) (neg_over l (L r) (over_L f))
 
 -- s touches the low end of i and the high end of the later j, and is below the low end of r: the mirror image
-no_line-below : (s : Line) (i j r : Range) → pos 0 <ℤ s.d → i.time < j.time → j.time ≤ r.time → Touches s (L i) → Touches s (H j) → gap s (L r) <ℤ pos 0
+pub no_line-below : (s : Line) (i j r : Range) → pos 0 <ℤ s.d → i.time < j.time → j.time ≤ r.time → Touches s (L i) → Touches s (H j) → gap s (L r) <ℤ pos 0
     → NoLine i j r
 no_line-below s i j r s-over lt le a b k l l-over f g h =
     no_line-above (negL s) (negR i) (negR j) (negR r) s-over lt le (neg_touches s (L i) a) (neg_touches s (H j) b) (neg_below s (L r) k) (negL l) l-over (neg-fits_range f) (neg-fits_range g) (neg-fits_range h)
@@ -63,7 +60,7 @@ until-then i j k h l = omega arith
 
 module _ (rs : List Range) (T : ℕ) (u : Until rs T) (r : Range) (le : T ≤ r.time) where
   -- from two ends of the run, of which the first is the earlier one
-  closed_of : (P Q : Range → Point) (P-time : (i : Range) → (P i).t ≡ pos i.time) (Q-time : (i : Range) → (Q i).t ≡ pos i.time) (A B : Point)
+  pub closed_of : (P Q : Range → Point) (P-time : (i : Range) → (P i).t ≡ pos i.time) (Q-time : (i : Range) → (Q i).t ≡ pos i.time) (A B : Point)
       → EndOf P rs A → EndOf Q rs B → A.t <ℤ B.t
       → ((i j : Range) → i.time < j.time → j.time ≤ r.time → A ≡ P i → B ≡ Q j → NoLine i j r)
       → Closed rs r
@@ -80,21 +77,6 @@ module _ (rs : List Range) (T : ℕ) (u : Until rs T) (r : Range) (le : T ≤ r.
         no_line = no-line-of i.range j.range r (none i.range j.range earlier (until-then _ _ _ (All_in u j.among) le) i.is j.is);
       }
 
-  module _ (x : Polygon) (z : RunState rs x) where
-    pub closes_high : pos 0 <ℤ gap x.slow (H r) → Closed rs r
-    closes_high h =
-        let e = state_slow_ends x z in
-        closed_of H L (λ i. refl) (λ i. refl) e.first e.second e.top e.bot e.rise
-        (λ i j lt before p q.
-        no_line-above x.slow i j r (state-slow x z).positive lt before (subst (Touches x.slow) p e.on_first) (subst (Touches x.slow) q e.on_second) h)
-
-    pub closes_low : gap x.fast (L r) <ℤ pos 0 → Closed rs r
-    closes_low h =
-        let e = state_fast_ends x z in
-        closed_of L H (λ i. refl) (λ i. refl) (neg_p e.first) (neg_p e.second) e.top e.bot e.rise
-        (λ i j lt before p q.
-        no_line-below x.fast i j r (state-fast x z).positive lt before (subst (Touches x.fast) p (image_touches x.fast e.first e.on_first)) (subst (Touches x.fast) q (image_touches x.fast e.second e.on_second)) h)
-
 pub closed_none : (rs : List Range) (r : Range) → Closed rs r → (l : Line) → InFit (r ∷ rs) l → ⊥
 closed_none rs r c l f =
     let rest = All-tail f.each in
@@ -107,17 +89,6 @@ closed-map f c = record { first = c.first; second = c.second; first_in = f _ c.f
 pub data Verdict (rs : List Range) (r : Range) (x : Polygon) : Type 0 where
   joins : RunState (r ∷ rs) (join r x) → Verdict rs r x
   closes : Closed rs r → Verdict rs r x
-
-pub verdict : (rs : List Range) (T : ℕ) → Until rs T → (r : Range) → T < r.time → r.low ≤ℤ r.high → (x : Polygon) → RunState rs x → Verdict rs r x
-verdict rs T u r lt ok x z = by (≤ℤ_or_<ℤ (gap x.slow (H r)) (pos 0)) (≤ℤ_or_<ℤ (pos 0) (gap x.fast (L r)))
-  where
-    le : T ≤ r.time
-    le = omega arith
-
-    by : (gap x.slow (H r) ≤ℤ pos 0) ⊎ (pos 0 <ℤ gap x.slow (H r)) → (pos 0 ≤ℤ gap x.fast (L r)) ⊎ (gap x.fast (L r) <ℤ pos 0) → Verdict rs r x
-    by (inl h) (inl k) = joins (joined rs T u r lt ok x z h k)
-    by (inl h) (inr k) = closes (closes_low rs T u r le x z k)
-    by (inr h) k = closes (closes_high rs T u r le x z h)
 
 -- ---- the polygon of a run, the last range first
 abbrev pub polygon_of : Range → Range → List Range → Polygon
@@ -153,12 +124,3 @@ run-until r s (w ∷ ws) o = until-head w (run_of r s ws) o.1
 pub last-earlier : (r s : Range) (ws : List Range) (w : Range) → Later w (run_of r s ws) → last_time s ws < w.time
 last-earlier r s [] w a = All-head a
 last-earlier r s (v ∷ ws) w a = All-head a
-
-pub run-state : (r s : Range) (ws : List Range) → InOrder (run_of r s ws) → (l : Line) → InFit (run_of r s ws) l → RunState (run_of r s ws) (polygon_of r s ws)
-run-state r s [] o l f = started r s (All-head o.1) o.2.0 o.0
-run-state r s (w ∷ ws) o l f =
-    by (verdict (run_of r s ws) (last_time s ws) (run-until r s ws o.2) w (last-earlier r s ws w o.1) o.0 (polygon_of r s ws) (run-state r s ws o.2 l (record { positive = f.positive; each = All-tail f.each })))
-  where
-    by : Verdict (run_of r s ws) w (polygon_of r s ws) → RunState (w ∷ run_of r s ws) (join w (polygon_of r s ws))
-    by (joins z) = z
-    by (closes c) = absurd (closed_none (run_of r s ws) w c l f)

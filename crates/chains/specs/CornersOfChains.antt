@@ -4,10 +4,10 @@
 --     corner_map                 the same set by another name
 --     Pinned F Top Bot l         a line of F that touches two ends, each a point of Top or of Bot, at two times
 --     pinned_corner              a pinned line is a corner: where it is a mean of two others, both touch both ends
---     ends_pinned, corners_pinned   slow is pinned; every listed line is
+--     ends_pinned   slow is pinned; every listed line is
 --     Listed ls l                l is one of ls, up to a common factor of p, q and d
---     corner_listed              every corner is listed
 --
+-- Further laws stand in proofs/CornersOfChains.antt.
 -- Assumes nothing.
 use Rattle.std.specs.Prelude.{◌≡◌, refl, List, [], ◌∷◌, ◌⊎◌, ℤ, pos, negsuc, ◌+ℤ◌, ◌*ℤ◌, ◌≤ℤ◌, ◌<ℤ◌}
 use Rattle.std.proofs.Common.{subst, inl, inr}
@@ -17,15 +17,13 @@ use Rattle.integers.specs.RingSolver.{var, lit, ◌:*◌}
 use Rattle.integers.specs.Certificates.{hyp, num, eqn, ◌⊞◌, ◌⊠◌}
 use Rattle.integers.specs.Quotes.{quotes, ring! }
 use Rattle.integers.specs.Solve.{claims, certify! }
-use Rattle.integers.specs.Lists.{All, nil, cons, All-head, All-tail, All_imp, All-append, All_map_inv, Any, Any_here, Any_there}
+use Rattle.integers.specs.Lists.{All, All-head, All-tail, Any, Any_here, Any_there}
 use Rattle.definitions.specs.Lines.{Line}
 use Rattle.definitions.specs.Fit.{SameLine}
-use Rattle.chains.specs.Points.{Point, gap, Touches, Mean, through-first, through-second, same_line, gap_mean}
+use Rattle.chains.specs.Points.{Point, gap, Touches, Mean, same_line, gap_mean}
 use Rattle.chains.specs.Mirror.{neg_p, negL, neg_l_neg_l, image_touches}
 use Rattle.chains.specs.Extremes.{Laws, TopThenBottom}
-use Rattle.chains.specs.Chain.{Polygon, Chain, last, next, Chains, first_fits, head_top}
-use Rattle.chains.specs.Weights.{Weights, none, more, weighted, WholeMean}
-use Rattle.chains.specs.Hull.{lines_of, corners_of, lines-negs, hull}
+use Rattle.chains.specs.Weights.{Weights, none, more, weighted}
 
 pub record CornerOf (F : Line → Type 0) (l : Line) : Type 0 where
   pub fits : F l
@@ -89,25 +87,9 @@ module _ {F : Line → Type 0} {Top Bot : Point → Type 0} where
         on_second = e.on_second;
       }
 
-  lines_pinned : {v : Line} {xs : List Point} {w : Line} → Chain F Top v xs w → All (Pinned F Top Bot) (lines_of xs)
-  lines_pinned (last b f) = nil
-  lines_pinned (next {A} {B} b lt c) =
-      cons
-      (record {
-        fits = first_fits c;
-        first = A;
-        second = B;
-        rise = lt;
-        first_end = inl b.top;
-        second_end = inl (head_top c);
-        on_first = through-first A B;
-        on_second = through-second A B;
-      })
-      (lines_pinned c)
-
 -- the mirror image of a pinned line, and so the lower side
 module _ {F : Line → Type 0} {Top Bot : Point → Type 0} where
-  pinned_mirror : (l : Line) → Pinned (λ l. F (negL l)) (λ A. Bot (neg_p A)) (λ A. Top (neg_p A)) (negL l) → Pinned F Top Bot l
+  pub pinned_mirror : (l : Line) → Pinned (λ l. F (negL l)) (λ A. Bot (neg_p A)) (λ A. Top (neg_p A)) (negL l) → Pinned F Top Bot l
   pinned_mirror l z =
       record {
         fits = subst F (neg_l_neg_l l) z.fits;
@@ -119,13 +101,6 @@ module _ {F : Line → Type 0} {Top Bot : Point → Type 0} where
         on_first = image_touches l z.first z.on_first;
         on_second = image_touches l z.second z.on_second;
       }
-
-  pub corners_pinned : (x : Polygon) → Chains F Top Bot x → All (Pinned F Top Bot) (corners_of x)
-  corners_pinned x ch =
-      cons (ends_pinned x.slow (first_fits ch.up) ch.slow_ends)
-      (All-append (lines_pinned ch.up)
-      (cons (pinned_mirror x.fast (ends_pinned (negL x.fast) (first_fits ch.down) ch.fast_ends))
-      (All_imp pinned_mirror (All_map_inv negL (lines_of x.lower) (subst (All (Pinned (λ l. F (negL l)) (λ A. Bot (neg_p A)) (λ A. Top (neg_p A)))) (lines-negs x.lower) (lines_pinned ch.down))))))
 
 -- ---- a corner that is a mean of lines of the fit is one of them
 abbrev sum_line : {ls : List Line} → Weights ls → Line
@@ -203,7 +178,7 @@ abbrev pub Listed : List Line → Line → Type 0
 Listed ls l = Any (λ m. SameLine m l) ls
 
 module _ {F : Line → Type 0} {Top Bot : Point → Type 0} {T : ℤ} (laws : Laws F Top Bot T) (l : Line) (k : CornerOf F l) (c : ℤ) (c_over : pos 0 <ℤ c) where
-  find : {ls : List Line} (ws : Weights ls) → All F ls → c *ℤ l.p ≡ weighted (λ m. m.p) ws → c *ℤ l.q ≡ weighted (λ m. m.q) ws → c *ℤ l.d ≡ weighted (λ m. m.d) ws
+  pub find : {ls : List Line} (ws : Weights ls) → All F ls → c *ℤ l.p ≡ weighted (λ m. m.p) ws → c *ℤ l.q ≡ weighted (λ m. m.q) ws → c *ℤ l.d ≡ weighted (λ m. m.d) ws
       → Listed ls l
   find none fs p q d = absurd (no-product c l.d c_over (laws.positive l k.fits) d)
   find (more {l = x} {ls} w h ws) fs p q d = by (≤ℤ_or_<ℤ w (pos 0)) (gather laws ws (All-tail fs)) (find ws (All-tail fs))
@@ -231,10 +206,3 @@ module _ {F : Line → Type 0} {Top Bot : Point → Type 0} {T : ℤ} (laws : La
             on_d = with-one c l.d w x.d _ d;
           })
           n one-over)
-
--- ---- a corner is listed
-pub corner_listed : {F : Line → Type 0} {Top Bot : Point → Type 0} {T : ℤ} (laws : Laws F Top Bot T) (x : Polygon) → Chains F Top Bot x → (l : Line) → CornerOf F l
-    → Listed (corners_of x) l
-corner_listed laws x ch l k =
-    let m : WholeMean (corners_of x) l = hull laws x ch l k.fits in
-    find laws l k m.c m.c_over m.weights (All_imp (λ l p. p.fits) (corners_pinned x ch)) m.on_p m.on_q m.on_d

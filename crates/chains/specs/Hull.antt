@@ -2,25 +2,24 @@
 --
 --     lines_of xs, lines_from A xs   the lines through neighbouring points of a chain
 --     corners_of x                  slow, the lines of the upper chain, fast, the lines of the lower chain
---     lines-negs                   the lines of the mirror image
---     hull                         every line of the fit is a weighted mean of the corners
 --
 -- Of a line l of the fit: two neighbours v and w on the side slow – upper chain – fast have l's slope between theirs and touch a point A that l is not above, so their mean with l's slope is at or above l. The mirror image gives one at or below l, and l is a mean of the two: of four corners at most.
+-- Further laws stand in proofs/Hull.antt.
 -- Assumes nothing.
-use Rattle.std.specs.Prelude.{◌≡◌, refl, List, [], ◌∷◌, ◌++◌, map, ◌⊎◌, ℤ, pos, negsuc, neg_ℤ, ◌+ℤ◌, ◌-ℤ◌, ◌*ℤ◌, ◌≤ℤ◌, ◌<ℤ◌}
+use Rattle.std.specs.Prelude.{◌≡◌, List, [], ◌∷◌, ◌++◌, ◌⊎◌, ℤ, pos, negsuc, neg_ℤ, ◌+ℤ◌, ◌-ℤ◌, ◌*ℤ◌, ◌≤ℤ◌, ◌<ℤ◌}
 use Rattle.std.proofs.Common.{sym, ◌∙◌, ap₂, subst, inl, inr}
 use Rattle.integers.specs.OrderLaws.{sub-pos, sub-nonneg, <ℤ→≤ℤ, ≤ℤ_or_<ℤ, ≤ℤ_antisym}
 use Rattle.integers.specs.RingSolver.{var, lit, ◌:+◌, ◌:*◌}
 use Rattle.integers.specs.Certificates.{hyp, num, eqn, ◌⊞◌, ◌⊠◌}
 use Rattle.integers.specs.Quotes.{quotes, ring! }
 use Rattle.integers.specs.Solve.{claims, certify! }
-use Rattle.integers.specs.Lists.{In, here, there, in_append_left, in_append_right, All, All_of, All-head, All-tail, All-map}
+use Rattle.integers.specs.Lists.{In, All, All-head, All-tail}
 use Rattle.definitions.specs.Lines.{Line}
 use Rattle.definitions.specs.Fit.{SlopeBelow}
 use Rattle.chains.specs.Points.{Point, gap, Touches, through, turn, SlopeAtMost}
-use Rattle.chains.specs.Mirror.{neg_p, negL, negs, neg_l_neg_l, through-neg, neg_slope≤}
-use Rattle.chains.specs.Extremes.{Laws, mirror-laws, slowest, fastest}
-use Rattle.chains.specs.Chain.{Polygon, Chain, last, next, Chains, first_fits, last_fits}
+use Rattle.chains.specs.Mirror.{negL}
+use Rattle.chains.specs.Extremes.{Laws}
+use Rattle.chains.specs.Chain.{Polygon, Chain, last, next}
 use Rattle.chains.specs.Weights.{Weights, weighted, one_weight, weighted-one, mix_weights, weighted-mix, WholeMean}
 
 abbrev pub lines_from : Point → List Point → List Line
@@ -34,16 +33,8 @@ lines_of (A ∷ xs) = lines_from A xs
 abbrev pub corners_of : Polygon → List Line
 corners_of x = x.slow ∷ (lines_of x.upper ++ (x.fast ∷ lines_of x.lower))
 
-lines_from-negs : (A : Point) (xs : List Point) → lines_from (neg_p A) (negs xs) ≡ map negL (lines_from A xs)
-lines_from-negs A [] = refl
-lines_from-negs A (B ∷ xs) = ap₂ (λ l ls. l ∷ ls) (sym (through-neg A B)) (lines_from-negs B xs)
-
-pub lines-negs : (xs : List Point) → lines_of (negs xs) ≡ map negL (lines_of xs)
-lines-negs [] = refl
-lines-negs (A ∷ xs) = lines_from-negs A xs
-
 -- ---- two lines of P whose mean has l's slope and is at or above l
-record Two (P : Line → Type 0) (l : Line) : Type 0 where
+pub record Two (P : Line → Type 0) (l : Line) : Type 0 where
   a : Line
   b : Line
   in-a : P a
@@ -94,7 +85,7 @@ two_here v w l A pv pw a b s h i j =
     }
 
 module _ {F : Line → Type 0} {Top Bot : Point → Type 0} {T : ℤ} (laws : Laws F Top Bot T) (P : Line → Type 0) (l : Line) (fl : F l) where
-  two : {v : Line} {xs : List Point} {w : Line} → Chain F Top v xs w → P v → All P (lines_of xs) → P w → SlopeAtMost v l → SlopeAtMost l w → Two P l
+  pub two : {v : Line} {xs : List Point} {w : Line} → Chain F Top v xs w → P v → All P (lines_of xs) → P w → SlopeAtMost v l → SlopeAtMost l w → Two P l
   two (last {v} {w} {A} b fw) pv ps pw i j = two_here v w l A pv pw b.before b.after b.turns (laws.under l A b.top fl) i j
   two (next {v} {w} {A} {B} b lt c) pv ps pw i j =
       by (≤ℤ_or_<ℤ (l.p *ℤ (through A B).d) ((through A B).p *ℤ l.d)) (λ k. two c (All-head ps) (All-tail ps) pw k j)
@@ -104,7 +95,7 @@ module _ {F : Line → Type 0} {Top Bot : Point → Type 0} {T : ℤ} (laws : La
       by (inr k) r = r (<ℤ→≤ℤ k)
 
 -- ---- a mean of ls that has l's slope and is at or above l; at or below it
-record Above (ls : List Line) (l : Line) : Type 0 where
+pub record Above (ls : List Line) (l : Line) : Type 0 where
   weights : Weights ls
   c : ℤ
   c_over : pos 0 <ℤ c
@@ -112,7 +103,7 @@ record Above (ls : List Line) (l : Line) : Type 0 where
   on_d : c *ℤ l.d ≡ weighted (λ m. m.d) weights
   on_q : (c *ℤ l.q) ≤ℤ weighted (λ m. m.q) weights
 
-record Beneath (ls : List Line) (l : Line) : Type 0 where
+pub record Beneath (ls : List Line) (l : Line) : Type 0 where
   weights : Weights ls
   c : ℤ
   c_over : pos 0 <ℤ c
@@ -128,7 +119,7 @@ weighted-pair : (f : Line → ℤ) {ls : List Line} {a b : Line} (α β : ℤ) (
 unfolding pair_weights
 weighted-pair f α β h k i j = weighted-mix f α β h k (one_weight i) (one_weight j) ∙ ap₂ (λ x y. α *ℤ x +ℤ β *ℤ y) (weighted-one f i) (weighted-one f j)
 
-above_of : {ls : List Line} {l : Line} → Two (λ m. In m ls) l → Above ls l
+pub above_of : {ls : List Line} {l : Line} → Two (λ m. In m ls) l → Above ls l
 above_of {ls} {l} t =
     record {
       weights = pair_weights t.α t.β t.α-over t.β-over t.in-a t.in_b;
@@ -149,7 +140,7 @@ flip-le : (c l α a β b z : ℤ) → z ≡ α *ℤ neg_ℤ a +ℤ β *ℤ neg_�
 flip-le c l α a β b z = certify! (c ∷ l ∷ α ∷ a ∷ β ∷ b ∷ z ∷ []) (search claims depth 60) (num 1) (eqn 0 (lit (pos 1)) ⊞ hyp 1) tt
 
 -- from the mirror image
-beneath-of : {ls : List Line} {l : Line} → Two (λ m. In (negL m) ls) (negL l) → Beneath ls l
+pub beneath-of : {ls : List Line} {l : Line} → Two (λ m. In (negL m) ls) (negL l) → Beneath ls l
 beneath-of {ls} {l} t =
     record {
       weights = pair_weights t.α t.β t.α-over t.β-over t.in-a t.in_b;
@@ -173,7 +164,7 @@ between-q c q X e Y = ring! (c ∷ q ∷ X ∷ e ∷ Y ∷ []) (search quotes de
 between-over : (s c r e : ℤ) → pos 0 ≤ℤ s → pos 0 <ℤ c → pos 0 <ℤ r → pos 0 <ℤ e → pos 0 <ℤ (s *ℤ c +ℤ r *ℤ e)
 between-over s c r e = certify! (s ∷ c ∷ r ∷ e ∷ []) (search claims depth 60) (num 1) (hyp 0 ⊠ hyp 1 ⊞ hyp 2 ⊠ hyp 3) tt
 
-combine : {ls : List Line} {l : Line} → Above ls l → Beneath ls l → WholeMean ls l
+pub combine : {ls : List Line} {l : Line} → Above ls l → Beneath ls l → WholeMean ls l
 combine {ls} {l} u v = by (≤ℤ_or_<ℤ X (u.c *ℤ l.q))
   where
     X : ℤ
@@ -202,29 +193,3 @@ combine {ls} {l} u v = by (≤ℤ_or_<ℤ X (u.c *ℤ l.q))
           on_q = between-q u.c l.q X v.c Y ∙ sym (weighted-mix (λ m. m.q) s r s-over (<ℤ→≤ℤ r-over) u.weights v.weights);
           on_d = between-eq s u.c r v.c l.d _ _ u.on_d v.on_d ∙ sym (weighted-mix (λ m. m.d) s r s-over (<ℤ→≤ℤ r-over) u.weights v.weights);
         }
-
--- ---- the hull theorem
-module _ {F : Line → Type 0} {Top Bot : Point → Type 0} {T : ℤ} (laws : Laws F Top Bot T) (x : Polygon) (ch : Chains F Top Bot x) where
-  pub hull : (l : Line) → F l → WholeMean (corners_of x) l
-  hull l fl = combine (above_of above) (beneath-of beneath)
-    where
-      lo : SlopeAtMost x.slow l
-      lo = slowest laws x.slow (first_fits ch.up) ch.slow_ends l fl
-
-      hi : SlopeAtMost l x.fast
-      hi = fastest laws x.fast (last_fits ch.up) ch.fast_ends l fl
-
-      in_fast : In x.fast (corners_of x)
-      in_fast = there (in_append_right (lines_of x.upper) (here refl))
-
-      twice : (m : Line) → In m (corners_of x) → In (negL (negL m)) (corners_of x)
-      twice m i = subst (λ k. In k (corners_of x)) (sym (neg_l_neg_l m)) i
-
-      above : Two (λ m. In m (corners_of x)) l
-      above = two laws (λ m. In m (corners_of x)) l fl ch.up (here refl) (All_of (lines_of x.upper) (λ m i. there (in_append_left _ i))) in_fast lo hi
-
-      beneath : Two (λ m. In (negL m) (corners_of x)) (negL l)
-      beneath =
-          two (mirror-laws laws) (λ m. In (negL m) (corners_of x)) (negL l) (subst F (sym (neg_l_neg_l l)) fl) ch.down (twice x.fast in_fast)
-          (subst (All (λ m. In (negL m) (corners_of x))) (sym (lines-negs x.lower)) (All-map negL (All_of (lines_of x.lower) (λ m i. twice m (there (in_append_right (lines_of x.upper) (there i)))))))
-          (twice x.slow (here refl)) (neg_slope≤ l x.fast hi) (neg_slope≤ x.slow l lo)

@@ -3,7 +3,7 @@
 --     neg_p, negL, negR               the mirror image of a point, a line, a range; the last two are those of the definitions
 --     negs                           of each point of a list
 --     neg_p-neg_p, neg_l_neg_l, negs-negs   twice is the thing itself
---     through-neg, un-through        the image of the line through two points is the line through their images
+--     through-neg   the image of the line through two points is the line through their images
 --     gap_neg                        the image of the line is as far below the image of the point as the line is above the point
 --     neg_touches, neg_under, neg_over, neg_below   from a line and a point to their images
 --     un_under, un_over              back
@@ -13,9 +13,10 @@
 --     neg-product, neg_product<      of two products that are equal, of one that is below the other
 --     neg_<_flip                     of two numbers
 --
+-- Further laws stand in proofs/Mirror.antt.
 -- Assumes nothing.
 use Rattle.std.specs.Prelude.{◌≡◌, refl, List, [], ◌∷◌, map, ℤ, pos, negsuc, neg_ℤ, ◌+ℤ◌, ◌-ℤ◌, ◌*ℤ◌, ◌≤ℤ◌, ◌<ℤ◌}
-use Rattle.std.proofs.Common.{sym, ◌∙◌, ap, ap₂}
+use Rattle.std.proofs.Common.{◌∙◌, ap, ap₂}
 use Rattle.std.proofs.Math.IntN.{neg_ℤ-neg_ℤ}
 use Rattle.integers.specs.RingSolver.{lit}
 use Rattle.integers.specs.Certificates.{hyp, num, eqn}
@@ -52,9 +53,6 @@ through_neg_q a x b y = ring! (a ∷ x ∷ b ∷ y ∷ []) (search quotes depth 
 
 pub through-neg : (A B : Point) → negL (through A B) ≡ through (neg_p A) (neg_p B)
 through-neg A B = λ i. record { p = through-neg_p A.u B.u i; q = through_neg_q A.t A.u B.t B.u i; d = B.t -ℤ A.t }
-
-pub un-through : (A B : Point) → negL (through (neg_p A) (neg_p B)) ≡ through A B
-un-through A B = ap negL (sym (through-neg A B)) ∙ neg_l_neg_l (through A B)
 
 -- ---- a line and a point
 module _ (l : Line) (A : Point) where

@@ -1,29 +1,27 @@
 -- The step as code does it: the upper chain is popped from its end. On a polygon that keeps the invariant it is the step of `State`, `Spot` and `Run`.
 --
 --     pop_above, pop_below, pop_spot, pop_join   cut_above, cut_below, spot and join, with pop_end for keep_under
---     above_same, below-same, spot_same, join-same   they are the same on a state
+--     above_same, below-same, spot_same   they are the same on a state
 --
 -- The code's contracts are equations with these, and so none of them asks for the invariant.
+-- Further laws stand in proofs/PopEnd.antt.
 -- Assumes nothing.
-use Rattle.std.specs.Prelude.{◌≡◌, List, ℕ, zero, suc, ◌<◌, ℤ, negsuc, ◌-ℤ◌, ◌≤ℤ◌, ◌<ℤ◌}
+use Rattle.std.specs.Prelude.{◌≡◌, zero, suc, ℤ, negsuc, ◌≤ℤ◌, ◌<ℤ◌}
 use Rattle.std.proofs.Math.Path.{refl, ap}
-use Rattle.std.proofs.Common.{◌∙◌, inl}
 use Rattle.std.proofs.Math.IntN.{pos}
-use Rattle.integers.specs.OrderLaws.{<ℤ→≤ℤ, ≤ℤ_<ℤ-trans, ≤ℤ_of_≡}
+use Rattle.integers.specs.OrderLaws.{<ℤ→≤ℤ}
 use Rattle.definitions.specs.Ranges.{Range}
 use Rattle.definitions.specs.Lines.{Line}
-use Rattle.definitions.specs.Fit.{InFit}
 use Rattle.chains.specs.Signs.{negsuc<0, suc>0}
 use Rattle.chains.specs.Points.{Point, gap}
 use Rattle.chains.specs.Mirror.{neg_p}
-use Rattle.chains.specs.Ends.{H, L, time<}
 use Rattle.chains.specs.Extremes.{Laws, mirror-laws}
 use Rattle.chains.specs.Chain.{mirror_polygon, Polygon}
-use Rattle.chains.specs.Cut.{Under, With, under-laws, keep_under}
+use Rattle.chains.specs.Cut.{keep_under}
 use Rattle.chains.specs.Step.{cut_with}
-use Rattle.chains.specs.State.{Single, State, same-under, cut_above, cut_fast, cut_slow, cut_below, state-mirror, cut_above_is, one_line, with_chains, cut_above_by, cut_below_by}
+use Rattle.chains.specs.State.{Single, State, same-under, cut_above, cut_fast, cut_slow, cut_below, state-mirror, one_line, with_chains, cut_above_by, cut_below_by}
 use Rattle.chains.specs.Spot.{spot, spot_slow, spot_fast, spot_by, spot_with}
-use Rattle.chains.specs.Run.{TopOf, BotOf, Until, RunState, run-laws, join, join_if, join_by}
+use Rattle.chains.specs.Run.{join_by}
 use Rattle.chains.specs.Pop.{pop_keep, pop_end}
 
 unfoldable pub pop_above : Point → Polygon → Polygon
@@ -75,24 +73,3 @@ pub below-same : {F : Line → Type 0} {Top Bot : Point → Type 0} {T : ℤ} �
     → pop_below N x ≡ cut_below N x
 unfolding pop_above pop_below
 below-same laws N late x z = ap mirror_polygon (above_same (mirror-laws laws) (neg_p N) late (mirror_polygon x) (state-mirror x z))
-
--- a range that joins
-pub join-same : (rs : List Range) (T : ℕ) → Until rs T → (r : Range) → T < r.time → r.low ≤ℤ r.high → (x : Polygon) → RunState rs x → gap x.slow (H r) ≤ℤ pos 0
-    → pop_join r x ≡ join r x
-unfolding pop_above pop_below pop_spot pop_join
-join-same rs T u r lt le x z h = by (r.high -ℤ r.low)
-  where
-    laws : Laws (InFit rs) (TopOf rs) (BotOf rs) (pos T)
-    laws = run-laws rs T u
-
-    late : pos T ≤ℤ pos r.time
-    late = <ℤ→≤ℤ (time< T r.time lt)
-
-    above : State (Under (InFit rs) (H r)) (With (TopOf rs) (H r)) (BotOf rs) (cut_above (H r) x)
-    above = cut_above_is laws (H r) late (λ B b. inl (≤ℤ_<ℤ-trans (laws.bot_early B b) (time< T r.time lt))) x z h
-
-    by : (g : ℤ) → join_if pop_end g r x ≡ join_if keep_under g r x
-    by (pos zero) = spot_same laws (H r) late x z
-    by (pos (suc n)) =
-        ap (pop_below (L r)) (above_same laws (H r) late x z) ∙ below-same (under-laws (H r) laws late) (L r) (≤ℤ_of_≡ refl) (cut_above (H r) x) above
-    by (negsuc n) = refl

@@ -1,28 +1,24 @@
 -- k ranges give at most 2k corners: each range adds at most one point to each chain, and the corners are as many as the points of the two chains.
 --
---     corners_count      the corners of a polygon with chains are as many as the points of its chains
---     at_most            the listed corners of a run are at most twice its ranges
 --
+-- Further laws stand in proofs/Size.antt.
 -- Assumes nothing.
-use Rattle.std.specs.Prelude.{◌≡◌, List, [], ◌∷◌, ℕ, zero, suc, ◌+◌, ◌≤◌, ◌*◌, length, ℤ, pos, negsuc, ◌-ℤ◌}
-use Rattle.std.proofs.Common.{ap, arith, length-append}
+use Rattle.std.specs.Prelude.{◌≡◌, List, [], ◌∷◌, ℕ, zero, suc, ◌+◌, ◌≤◌, length, ℤ, pos, negsuc, ◌-ℤ◌}
+use Rattle.std.proofs.Common.{arith, length-append}
 use Rattle.std.proofs.lemmas.List.{length-map}
 use Rattle.definitions.specs.Ranges.{Range}
 use Rattle.definitions.specs.Lines.{Line}
 use Rattle.chains.specs.Points.{Point, gap, through, turn}
-use Rattle.chains.specs.Mirror.{neg_p, negs, negL}
+use Rattle.chains.specs.Mirror.{neg_p}
 use Rattle.chains.specs.Ends.{H, L}
-use Rattle.chains.specs.Extremes.{Laws}
-use Rattle.chains.specs.Chain.{Chain, last, next, head_of, last_of, Polygon, Chains, mirror_polygon}
+use Rattle.chains.specs.Chain.{Chain, last, next, head_of, last_of, Polygon, mirror_polygon}
 use Rattle.chains.specs.Cut.{keep_under, keep_under_after, keep_under_if, drop_over, drop_over_from, drop_over_if}
 use Rattle.chains.specs.Step.{cut, push_if}
-use Rattle.chains.specs.State.{State, cut_above, cut_fast, cut_slow, cut_below, one_line, with_chains}
+use Rattle.chains.specs.State.{cut_above, cut_fast, cut_slow, cut_below}
 use Rattle.chains.specs.Spot.{spot, spot_slow, spot_fast}
-use Rattle.chains.specs.Run.{join, join_if, Until, RunState, run-laws}
+use Rattle.chains.specs.Run.{join, join_if}
 use Rattle.chains.specs.Start.{start, start_if}
-use Rattle.chains.specs.Hull.{lines_of, corners_of, lines-negs}
-use Rattle.chains.specs.Closing.{polygon_of, run_of}
-use Rattle.chains.specs.Listing.{list_of, list-many, list-single, chain_slope}
+use Rattle.chains.specs.Hull.{lines_of}
 
 keep_if_length : (g : ℤ) (ys : List Point) → length (keep_under_if g ys) ≤ length ys
 keep_if_length (pos n) ys = omega arith
@@ -54,9 +50,9 @@ push_if-length (pos (suc n)) ks N = omega (arith, length-append ks (N ∷ []))
 push_if-length (negsuc n) ks N = omega arith
 
 -- the sizes of the two chains are at most u and l
-record Sized (u l : ℕ) (x : Polygon) : Type 0 where
-  upper≤ : length x.upper ≤ u
-  lower≤ : length x.lower ≤ l
+pub record Sized (u l : ℕ) (x : Polygon) : Type 0 where
+  pub upper≤ : length x.upper ≤ u
+  pub lower≤ : length x.lower ≤ l
 
 sized-mirror : {u l : ℕ} (x : Polygon) → Sized u l x → Sized l u (mirror_polygon x)
 sized-mirror x s = record { upper≤ = omega (arith, length-map x.lower neg_p, s.lower≤); lower≤ = omega (arith, length-map x.upper neg_p, s.upper≤) }
@@ -98,7 +94,7 @@ spot-sized {u} {l} N x s = by (gap x.slow N)
     by (pos n) = record { upper≤ = omega (arith, s.upper≤); lower≤ = omega (arith, s.lower≤) }
     by (negsuc n) = inner (gap x.fast N)
 
-join-sized : {u l : ℕ} (r : Range) (x : Polygon) → Sized u l x → Sized (u + 1) (l + 1) (join r x)
+pub join-sized : {u l : ℕ} (r : Range) (x : Polygon) → Sized u l x → Sized (u + 1) (l + 1) (join r x)
 join-sized {u} {l} r x s = by (r.high -ℤ r.low)
   where
     by : (g : ℤ) → Sized (u + 1) (l + 1) (join_if keep_under g r x)
@@ -106,7 +102,7 @@ join-sized {u} {l} r x s = by (r.high -ℤ r.low)
     by (pos (suc n)) = below-sized (L r) (cut_above (H r) x) (above-sized (H r) x s)
     by (negsuc n) = record { upper≤ = omega (arith, s.upper≤); lower≤ = omega (arith, s.lower≤) }
 
-start-sized : (r s : Range) → Sized 2 2 (start r s)
+pub start-sized : (r s : Range) → Sized 2 2 (start r s)
 start-sized r s = by (r.high -ℤ r.low) (s.high -ℤ s.low)
   where
     by : (g h : ℤ) → Sized 2 2 (start_if g h r s)
@@ -116,29 +112,6 @@ start-sized r s = by (r.high -ℤ r.low) (s.high -ℤ s.low)
     by (pos (suc n)) (negsuc k) = record { upper≤ = omega arith; lower≤ = omega arith }
     by (negsuc n) h = record { upper≤ = omega arith; lower≤ = omega arith }
 
-run-sized : (r s : Range) (ws : List Range) → Sized (length ws + 2) (length ws + 2) (polygon_of r s ws)
-run-sized r s [] = let z = start-sized r s in record { upper≤ = omega (arith, z.upper≤); lower≤ = omega (arith, z.lower≤) }
-run-sized r s (w ∷ ws) =
-    let z = join-sized w (polygon_of r s ws) (run-sized r s ws) in
-    record { upper≤ = omega (arith, z.upper≤); lower≤ = omega (arith, z.lower≤) }
-
-chain_length : {F : Line → Type 0} {Top : Point → Type 0} {v : Line} {xs : List Point} {w : Line} → Chain F Top v xs w → length (lines_of xs) + 1 ≡ length xs
+pub chain_length : {F : Line → Type 0} {Top : Point → Type 0} {v : Line} {xs : List Point} {w : Line} → Chain F Top v xs w → length (lines_of xs) + 1 ≡ length xs
 chain_length (last b f) = omega arith
 chain_length (next b lt c) = omega (arith, chain_length c)
-
-module _ {F : Line → Type 0} {Top Bot : Point → Type 0} {T : ℤ} (laws : Laws F Top Bot T) (x : Polygon) where
-  pub corners_count : Chains F Top Bot x → length (corners_of x) ≡ length x.upper + length x.lower
-  corners_count c =
-      let e : length (lines_of (negs x.lower)) + 1 ≡ length (negs x.lower) = chain_length c.down in
-      omega (arith, length-append (lines_of x.upper) (x.fast ∷ lines_of x.lower), chain_length c.up, e, length-map x.lower neg_p, ap length (lines-negs x.lower), length-map (lines_of x.lower) negL)
-
-  list_count : (k : ℕ) → 1 ≤ k → length x.upper ≤ k → length x.lower ≤ k → State F Top Bot x → length (list_of x) ≤ k + k
-  list_count k o a b (with_chains c) = list-many (λ ls. length ls ≤ k + k) x (chain_slope laws c.up) (omega (arith, corners_count c))
-  list_count k o a b (one_line z) = list-single (λ ls. length ls ≤ k + k) x z.same (omega arith)
-
-pub at_most : (r s : Range) (ws : List Range) (T : ℕ) → Until (run_of r s ws) T → RunState (run_of r s ws) (polygon_of r s ws)
-    → length (list_of (polygon_of r s ws)) ≤ 2 * (length ws + 2)
-at_most r s ws T u z =
-    let q = run-sized r s ws in
-    let c = list_count (run-laws (run_of r s ws) T u) (polygon_of r s ws) (length ws + 2) (omega arith) q.upper≤ q.lower≤ z in
-    omega arith

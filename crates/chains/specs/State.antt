@@ -8,27 +8,26 @@
 --     cut_above N x             (cut_fast, cut_slow) the fit's lines at or below N, of which slow is one: x itself where fast is not above N, slow alone where slow touches N, and `cut` else
 --     cut_below N x             the fit's lines at or above N: the mirror image of cut_above
 --     cut_above_by, cut_below_by   the same, with any rule Shorten for what is left of the upper chain
---     cut_above_is, cut_below_lem     both keep the state
 --     un-with                  one more point, seen in the mirror and back
 --     same-under               one line is not on both sides of a point
 --
 -- Fits that are a point or a segment of lines are states like any other: O'Rourke takes a polygon with an interior for granted.
+-- Further laws stand in proofs/State.antt.
 -- Assumes nothing.
 use Rattle.std.specs.Prelude.{◌≡◌, refl, [], ◌∷◌, List, ◌⊎◌, zero, suc, ℤ, pos, negsuc, ◌*ℤ◌, ◌≤ℤ◌, ◌<ℤ◌}
 use Rattle.std.proofs.Common.{sym, ◌∙◌, ap, subst, inl, inr}
-use Rattle.integers.specs.OrderLaws.{≤ℤ-trans, <ℤ→≤ℤ, ≤ℤ_of_≡, ≤ℤ_or_<ℤ, ≤ℤ_antisym}
+use Rattle.integers.specs.OrderLaws.{≤ℤ-trans, ≤ℤ_of_≡, ≤ℤ_or_<ℤ, ≤ℤ_antisym}
 use Rattle.integers.specs.RingSolver.{var, lit, ◌:*◌}
 use Rattle.integers.specs.Certificates.{hyp, num, eqn, ◌⊞◌, ◌⊠◌}
 use Rattle.integers.specs.Solve.{claims, certify! }
 use Rattle.definitions.specs.Lines.{Line}
 use Rattle.definitions.specs.Fit.{SameLine}
-use Rattle.chains.specs.Signs.{negsuc<0, pos≥0, suc>0}
 use Rattle.chains.specs.Points.{Point, gap, Touches, SlopeAtMost, below_under, same_refl}
-use Rattle.chains.specs.Mirror.{neg_p, negL, neg_over, un_under, neg_l_neg_l, neg_p-neg_p, neg_<_flip, neg_same}
-use Rattle.chains.specs.Extremes.{Laws, TopThenBottom, BottomThenTop, mirror-laws, slowest, fastest, highest, slowest_only, bottom-top}
+use Rattle.chains.specs.Mirror.{neg_p, negL, neg_l_neg_l, neg_p-neg_p, neg_same}
+use Rattle.chains.specs.Extremes.{Laws, TopThenBottom, BottomThenTop, slowest, fastest, highest, slowest_only, bottom-top}
 use Rattle.chains.specs.Chain.{chains-map, ends-map, ends-mirror, mirror, first_fits, last_fits, Polygon, Chains, mirror_polygon}
-use Rattle.chains.specs.Cut.{Under, Over, With, keep_under}
-use Rattle.chains.specs.Step.{cut_chains, cut_with}
+use Rattle.chains.specs.Cut.{Under, With, keep_under}
+use Rattle.chains.specs.Step.{cut_with}
 
 -- ---- a single line
 pub record Single (F : Line → Type 0) (Top Bot : Point → Type 0) (x : Polygon) : Type 0 where
@@ -140,13 +139,13 @@ before_N s B N s-over b n le (inr h) = by (≤ℤ_or_<ℤ N.t B.t)
 
 module _ {F : Line → Type 0} {Top Bot : Point → Type 0} {T : ℤ} (laws : Laws F Top Bot T) (N : Point) (late : T ≤ℤ N.t) where
   -- fast is not above N: nothing changes
-  no_cut : (x : Polygon) → State F Top Bot x → gap x.fast N ≤ℤ pos 0 → State (Under F N) (With Top N) Bot x
+  pub no_cut : (x : Polygon) → State F Top Bot x → gap x.fast N ≤ℤ pos 0 → State (Under F N) (With Top N) Bot x
   no_cut x z h =
       let ff = state-fast x z in
       state-map (λ l f. (f, below_under l x.fast N (laws.positive l f) (laws.positive _ ff) (highest laws x.fast ff (state_fast_ends x z) l f N.t late) h)) (λ A a. inl a) (λ A a. a) z
 
   -- slow touches N: slow alone
-  only_slow : (apart : (B : Point) → Bot B → (B.t <ℤ N.t) ⊎ (B.u <ℤ N.u)) (x : Polygon) → State F Top Bot x → Touches x.slow N
+  pub only_slow : (apart : (B : Point) → Bot B → (B.t <ℤ N.t) ⊎ (B.u <ℤ N.u)) (x : Polygon) → State F Top Bot x → Touches x.slow N
       → State (Under F N) (With Top N) Bot (alone x.slow x)
   only_slow apart x z h =
       let s = x.slow in
@@ -163,20 +162,6 @@ module _ {F : Line → Type 0} {Top Bot : Point → Type 0} {T : ℤ} (laws : La
         same = same_refl s;
       })
 
-  pub cut_above_is : ((B : Point) → Bot B → (B.t <ℤ N.t) ⊎ (B.u <ℤ N.u)) → (x : Polygon) → State F Top Bot x → gap x.slow N ≤ℤ pos 0
-      → State (Under F N) (With Top N) Bot (cut_above N x)
-  cut_above_is apart x z h = by (gap x.fast N) refl
-    where
-      inner : State F Top Bot x → pos 0 <ℤ gap x.fast N → (g : ℤ) → gap x.slow N ≡ g → State (Under F N) (With Top N) Bot (cut_slow keep_under g N x)
-      inner (one_line o) k g e = absurd (same-under x.slow x.fast N (laws.positive _ o.slow_fits) (laws.positive _ o.fast_fits) o.same.slope o.same.intercept h k)
-      inner (with_chains c) k (pos n) e = only_slow apart x (with_chains c) (≤ℤ_antisym h (pos≥0 _ n e))
-      inner (with_chains c) k (negsuc n) e = with_chains (cut_chains laws N late x c (negsuc<0 _ n e) k)
-
-      by : (g : ℤ) → gap x.fast N ≡ g → State (Under F N) (With Top N) Bot (cut_fast keep_under g N x)
-      by (pos zero) e = no_cut x z (≤ℤ_of_≡ e)
-      by (pos (suc n)) e = inner z (suc>0 _ n e) (gap x.slow N) refl
-      by (negsuc n) e = no_cut x z (<ℤ→≤ℤ (negsuc<0 _ n e))
-
 -- ---- the cut below: the mirror image
 abbrev pub cut_below_by : Shorten → Point → Polygon → Polygon
 cut_below_by shorten N x = mirror_polygon (cut_above_by shorten (neg_p N) (mirror_polygon x))
@@ -187,10 +172,3 @@ cut_below N x = cut_below_by keep_under N x
 pub un-with : (Bot : Point → Type 0) (N A : Point) → With (λ B. Bot (neg_p B)) (neg_p N) (neg_p A) → With Bot N A
 un-with Bot N A (inl b) = inl (subst Bot (neg_p-neg_p A) b)
 un-with Bot N A (inr e) = inr (sym (neg_p-neg_p A) ∙ ap neg_p e ∙ neg_p-neg_p N)
-
-pub cut_below_lem : {F : Line → Type 0} {Top Bot : Point → Type 0} {T : ℤ} → Laws F Top Bot T → (N : Point) → T ≤ℤ N.t
-    → ((B : Point) → Top B → (B.t <ℤ N.t) ⊎ (N.u <ℤ B.u)) → (x : Polygon) → State F Top Bot x → pos 0 ≤ℤ gap x.fast N
-    → State (Over F N) Top (With Bot N) (cut_below N x)
-cut_below_lem {F} {Top} {Bot} laws N late apart x z h =
-    state-map (λ l f. (subst F (neg_l_neg_l l) f.0, un_under l N f.1)) (λ A a. subst Top (neg_p-neg_p A) a) (un-with Bot N)
-    (state-mirror (cut_above (neg_p N) (mirror_polygon x)) (cut_above_is (mirror-laws laws) (neg_p N) late (λ B b. elim (apart (neg_p B) b) [ inl k ↦ inl k | inr k ↦ inr (neg_<_flip N.u B.u k) ]) (mirror_polygon x) (state-mirror x z) (neg_over x.fast N h)))

@@ -4,12 +4,12 @@
 --     ThroughTwoEnds rs l        the values of l at the times of two of the ranges rs are ends of these
 --     ThroughEnds P Q rs l       l is the line through the ends P and Q of two ranges, the first one earlier: high and low for slow, low and high for fast
 --     touches_reading, reading_touches   to touch a point is to have its value at its time
---     joined_ends, same_ends, ends_fit   the line through the two ends, with the numbers that the candidates have; l is this line; it fits where l does
---     same-through, through-positive, same-fits   a line is the line through two of its points; its d is above 0; the same line fits the same ranges
+--     joined_ends   the line through the two ends, with the numbers that the candidates have; l is this line; it fits where l does
+--     through-positive, same-fits   a line is the line through two of its points; its d is above 0; the same line fits the same ranges
 --     pinned_two_ends, two_ends_pinned   a line of the fit goes through two ends exactly when it is pinned
---     top_then_bottom, bottom_then_top   slow and fast by their ends
 --     two_ends_map, through_ends-map     of a run with the same ranges
 --
+-- Further laws stand in proofs/TwoEnds.antt.
 -- Assumes nothing.
 use Rattle.std.specs.Prelude.{◌≡◌, refl, List, [], ◌∷◌, ◌⊎◌, ℕ, ◌<◌, ℤ, pos, ◌+ℤ◌, ◌*ℤ◌, ◌<ℤ◌}
 use Rattle.std.proofs.Common.{sym, subst, inl, inr}
@@ -23,11 +23,9 @@ use Rattle.integers.specs.Lists.{In}
 use Rattle.definitions.specs.Ranges.{Range}
 use Rattle.definitions.specs.Lines.{Line, reading, through}
 use Rattle.definitions.specs.Fit.{InFit, SameLine}
-use Rattle.chains.specs.Points.{Point, Touches, same_line, through-first, through-second}
-use Rattle.chains.specs.Mirror.{image_touches, neg_p}
+use Rattle.chains.specs.Points.{Point, Touches}
 use Rattle.chains.specs.Ends.{mean_fits, time<, H, L, un-time<}
-use Rattle.chains.specs.Extremes.{BottomThenTop, TopThenBottom}
-use Rattle.chains.specs.Run.{BotOf, EndOf, TopOf, source, end_in}
+use Rattle.chains.specs.Run.{BotOf, TopOf, source, end_in}
 use Rattle.chains.specs.CornersOfChains.{Pinned}
 
 abbrev pub IsEnd : Range → ℤ → Type 0
@@ -64,12 +62,6 @@ unfolding reading
 reading_touches l t u = certify! (l.p ∷ l.q ∷ l.d ∷ pos t ∷ u ∷ []) (search claims depth 40) (num 1) (eqn 0 (lit (pos 1))) tt
 
 -- ---- the line through two points
-pub same-through : (l : Line) (i j : ℕ) (u v : ℤ) → i < j → reading l i ≡ l.d *ℤ u → reading l j ≡ l.d *ℤ v → SameLine l (through i u j v)
-unfolding through
-same-through l i j u v lt a b =
-    let A : Point = record { t = pos i; u = u } in
-    let B : Point = record { t = pos j; u = v } in
-    same_line l (through i u j v) A B (time< i j lt) (reading_touches l i u a) (reading_touches l j v b) (through-first A B) (through-second A B)
 
 pub through-positive : (i j : ℕ) (u v : ℤ) → i < j → pos 0 <ℤ (through i u j v).d
 unfolding through
@@ -97,14 +89,6 @@ module _ {rs : List Range} {l : Line} (t : ThroughTwoEnds rs l) where
   abbrev pub joined_ends : Line
   joined_ends = through t.first.time t.first_value t.second.time t.second_value
 
-  pub same_ends : SameLine joined_ends l
-  same_ends =
-      let s = same-through l t.first.time t.second.time t.first_value t.second_value t.earlier t.on_first t.on_second in
-      record { slope = sym s.slope; intercept = sym s.intercept }
-
-  pub ends_fit : InFit rs l → InFit rs joined_ends
-  ends_fit f = same-fits rs joined_ends l same_ends (through-positive t.first.time t.second.time t.first_value t.second_value t.earlier) f
-
 -- a run with the same ranges
 pub two_ends_map : {rs qs : List Range} {l : Line} → ((q : Range) → In q rs → In q qs) → ThroughTwoEnds rs l → ThroughTwoEnds qs l
 two_ends_map f t =
@@ -123,16 +107,16 @@ two_ends_map f t =
     }
 
 -- ---- by points
-abbrev point_at : Range → ℤ → Point
+abbrev pub point_at : Range → ℤ → Point
 point_at r u = record { t = pos r.time; u = u }
 
 -- the range and the value of an end
 record EndAt (rs : List Range) (A : Point) : Type 0 where
-  range : Range
-  among : In range rs
+  pub range : Range
+  pub among : In range rs
   value : ℤ
   is_end : IsEnd range value
-  is : A ≡ point_at range value
+  pub is : A ≡ point_at range value
 
 end-at : (rs : List Range) (A : Point) → TopOf rs A ⊎ BotOf rs A → EndAt rs A
 end-at rs A (inl a) = let s = source H rs A a in record { range = s.range; among = s.among; value = s.range.high; is_end = inr refl; is = s.is }
@@ -173,32 +157,6 @@ module _ (rs : List Range) (l : Line) where
         on_first = reading_touches l t.first.time t.first_value t.on_first;
         on_second = reading_touches l t.second.time t.second_value t.on_second;
       }
-
--- slow and fast
-module _ (P Q : Range → ℤ) (rs : List Range) (l : Line) where
-  ends_of : (A B : Point) → EndOf (λ r. point_at r (P r)) rs A → EndOf (λ r. point_at r (Q r)) rs B → A.t <ℤ B.t → Touches l A → Touches l B → ThroughEnds P Q rs l
-  ends_of A B a b rise on-a on-b =
-      let i = source (λ r. point_at r (P r)) rs A a in
-      let j = source (λ r. point_at r (Q r)) rs B b in
-      let earlier : i.range.time < j.range.time = un-time< _ _ (subst (λ C. pos i.range.time <ℤ C.t) j.is (subst (λ C. C.t <ℤ B.t) i.is rise)) in
-      record {
-        first = i.range;
-        second = j.range;
-        first_in = i.among;
-        second_in = j.among;
-        earlier = earlier;
-        same =
-            same-through l i.range.time j.range.time (P i.range) (Q j.range) earlier
-            (touches_reading l i.range.time (P i.range) (subst (Touches l) i.is on-a))
-            (touches_reading l j.range.time (Q j.range) (subst (Touches l) j.is on-b));
-      }
-
-pub top_then_bottom : (rs : List Range) (l : Line) → TopThenBottom (TopOf rs) (BotOf rs) l → ThroughEnds (λ r. r.high) (λ r. r.low) rs l
-top_then_bottom rs l e = ends_of (λ r. r.high) (λ r. r.low) rs l e.first e.second e.top e.bot e.rise e.on_first e.on_second
-
-pub bottom_then_top : (rs : List Range) (l : Line) → BottomThenTop (TopOf rs) (BotOf rs) l → ThroughEnds (λ r. r.low) (λ r. r.high) rs l
-bottom_then_top rs l e =
-    ends_of (λ r. r.low) (λ r. r.high) rs l (neg_p e.first) (neg_p e.second) e.top e.bot e.rise (image_touches l e.first e.on_first) (image_touches l e.second e.on_second)
 
 pub through_ends-map : {P Q : Range → ℤ} {rs qs : List Range} {l : Line} → ((q : Range) → In q rs → In q qs) → ThroughEnds P Q rs l → ThroughEnds P Q qs l
 through_ends-map f t = record { first = t.first; second = t.second; first_in = f _ t.first_in; second_in = f _ t.second_in; earlier = t.earlier; same = t.same }

@@ -15,7 +15,8 @@ use Rattle.definitions.specs.Fit.{HasLine, Ordered}
 use Rattle.trial_laws.specs.RangeLists.{range_at}
 use Rattle.trial_laws.specs.Accepted.{AcceptedLists}
 use Rattle.chains.specs.Listing.{list_of}
-use Rattle.chains.specs.Results.{corner_list, corners_fit}
+use Rattle.chains.specs.Results.{corner_list}
+use Rattle.chains.proofs.Results.{corners_fit}
 use Rattle.lines.specs.CornerList.{corners_are, corners_count}
 use Rattle.lines.specs.Polygon.{corners_of}
 use Rattle.drift_laws.specs.ChainParts.{Chain}

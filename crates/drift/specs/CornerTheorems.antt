@@ -36,7 +36,8 @@ use Rattle.definitions.specs.Calls.{Fit, open_strip, bounded, fit_of, corners_in
 use Rattle.trial_laws.specs.Rows.{first_row-accepted}
 use Rattle.trial_laws.specs.CallLaws.{call-accepted, bind-accepted, bind-refused}
 use Rattle.splits.specs.Runs.{FrontOf}
-use Rattle.lines.specs.Theorems.{corners_exact, corners_ordered, corners_once, corners_count, corners_fit, corners_mean, corners_by_diagonal, one_range_no_corner}
+use Rattle.lines.specs.Theorems.{corners_exact, corners_ordered, corners_once, corners_count, corners_fit, corners_mean}
+use Rattle.lines.proofs.Theorems.{corners_by_diagonal, one_range_no_corner}
 use Rattle.lines.specs.Diagonal.{ByDiagonal}
 use Rattle.drift.specs.declared.CornersAnswer.{CornersAnswer}
 use Rattle.drift.specs.declared.CornersAnswer.TheVariants.{Corners, Open, Refused}

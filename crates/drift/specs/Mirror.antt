@@ -28,7 +28,8 @@ use Rattle.definitions.specs.Mirrors.{mirrored_lists, mirrored_service, mirrored
 use Rattle.trial_laws.specs.Rows.{refused_not_accepted}
 use Rattle.trial_laws.specs.CallLaws.{accepted-is, then-then, then_same}
 use Rattle.lines.specs.Mirrored.{mirrored}
-use Rattle.lines.specs.MirroredCorners.{TurnedRing, corners_mirrored}
+use Rattle.lines.specs.MirroredCorners.{TurnedRing}
+use Rattle.lines.proofs.MirroredCorners.{corners_mirrored}
 use Rattle.drift.specs.declared.SegmentAnswer.{SegmentAnswer}
 use Rattle.drift.specs.declared.SegmentAnswer.TheVariants.{Accepted, Refused}
 use Rattle.drift.specs.declared.CornersAnswer.{CornersAnswer}

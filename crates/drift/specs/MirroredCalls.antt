@@ -27,11 +27,12 @@ use Rattle.definitions.specs.Mirrors.{mirrored_range, mirrored_lists, mirrored_s
 use Rattle.splits.specs.Cutting.{last_run-map}
 use Rattle.trial_laws.specs.CallLaws.{then-then, then-known}
 use Rattle.trial_laws.specs.Accepted.{segment-accepted}
-use Rattle.trial_laws.specs.MirroredTrial.{ranges-mirrored, segment_trial_mirrored, corner_trial_mirrored}
+use Rattle.trial_laws.proofs.MirroredTrial.{ranges-mirrored, segment_trial_mirrored, corner_trial_mirrored}
 use Rattle.lines.specs.Mirrored.{mirrored}
 use Rattle.lines.specs.MirroredFit.{segments-mirrored}
-use Rattle.lines.specs.MirroredOutlook.{segments_of-mirrored}
-use Rattle.lines.specs.MirroredCorners.{ring-length, corners_mirrored}
+use Rattle.lines.proofs.MirroredOutlook.{segments_of-mirrored}
+use Rattle.lines.specs.MirroredCorners.{ring-length}
+use Rattle.lines.proofs.MirroredCorners.{corners_mirrored}
 use Rattle.drift.specs.CornersPromise.{count_of, corner_count}
 use Rattle.drift.specs.RunningSegment.{running_ordered, running_good}
 

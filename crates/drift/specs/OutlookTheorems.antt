@@ -37,7 +37,8 @@ use Rattle.definitions.specs.Results.{Numbers, segment_of, time_number, slow_lin
 use Rattle.splits.specs.OrderedRanges.{ordered_at}
 use Rattle.splits.specs.RunTimes.{split_run_good}
 use Rattle.splits.specs.Segments.{segments_of-at}
-use Rattle.lines.specs.RunOutlook.{OutlookMeans, outlook-means, every-second}
+use Rattle.lines.specs.RunOutlook.{OutlookMeans, every-second}
+use Rattle.lines.proofs.RunOutlook.{outlook-means}
 use Rattle.lines.specs.Theorems.{segments_split}
 use Rattle.trial_laws.specs.Accepted.{GoodService}
 use Rattle.drift.specs.declared.SegmentAnswer.TheVariants.{Accepted}

@@ -17,7 +17,8 @@ use Rattle.definitions.specs.Segments.{segments, running_after}
 use Rattle.definitions.specs.Answers.{accepted, firstRow}
 use Rattle.definitions.specs.Trial.{too_short, corner_rows}
 use Rattle.trial_laws.specs.RangeLists.{ranges_length}
-use Rattle.trial_laws.specs.Accepted.{AcceptedLists, corner_accepted}
+use Rattle.trial_laws.specs.Accepted.{AcceptedLists}
+use Rattle.trial_laws.proofs.Accepted.{corner_accepted}
 use Rattle.splits.specs.Runs.{FrontOf}
 use Rattle.splits.specs.Cutting.{cut_ends}
 use Rattle.splits.specs.OrderedRanges.{ordered-left, ordered-right}

@@ -16,9 +16,12 @@ use Rattle.splits.specs.OrderedRanges.{ordered-left}
 use Rattle.chains.specs.Points.{gap}
 use Rattle.chains.specs.Ends.{H, L}
 use Rattle.chains.specs.State.{state-slow}
-use Rattle.chains.specs.Run.{Until, RunState, join, joined}
-use Rattle.chains.specs.Closing.{run_of, polygon_of, run-state, Closed, closes_high, closes_low, closed_none, Later}
-use Rattle.chains.specs.PopEnd.{pop_join, join-same}
+use Rattle.chains.specs.Run.{Until, RunState, join}
+use Rattle.chains.proofs.Run.{joined}
+use Rattle.chains.specs.Closing.{run_of, polygon_of, Closed, closed_none, Later}
+use Rattle.chains.proofs.Closing.{run-state, closes_high, closes_low}
+use Rattle.chains.specs.PopEnd.{pop_join}
+use Rattle.chains.proofs.PopEnd.{join-same}
 use Rattle.chains.specs.InTime.{all-turned, all_in_time, fits_turned, ordered-turned, run_end-until, ordered-last, end-earlier}
 use Rattle.chains.specs.Results.{polygon, polygon-join}
 

@@ -26,7 +26,8 @@ use Rattle.chains.specs.Ends.{H, L}
 use Rattle.chains.specs.Chain.{Polygon}
 use Rattle.chains.specs.Start.{start}
 use Rattle.chains.specs.PopEnd.{pop_join}
-use Rattle.chains.specs.Results.{polygon, polygon-start, one-has_line, two_have_line}
+use Rattle.chains.specs.Results.{polygon, polygon-start, one-has_line}
+use Rattle.chains.proofs.Results.{two_have_line}
 use Rattle.drift_laws.specs.TestedSigns.{less_yes, less_no, most_yes, most_no}
 use Rattle.drift_laws.specs.RunSteps.{pop_joins, joins_line, closes_above, closes_below}
 

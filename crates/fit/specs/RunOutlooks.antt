@@ -17,7 +17,7 @@ use Rattle.trial_laws.specs.RangeLists.{range_at}
 use Rattle.trial_laws.specs.Accepted.{GoodService, AcceptedLists}
 use Rattle.splits.specs.OrderedRanges.{last_time_of, last-append}
 use Rattle.chains.specs.Results.{slow, fast}
-use Rattle.lines.specs.RunOutlook.{outlook_by_lines}
+use Rattle.lines.proofs.RunOutlook.{outlook_by_lines}
 use Rattle.drift_laws.specs.ChainParts.{Chain}
 use Rattle.drift_laws.specs.RunsByPlace.{run, run_two, run_more, run_ordered}
 use Rattle.values.specs.Meanings.{line_of}

@@ -22,7 +22,8 @@ use Rattle.chains.specs.Points.{gap}
 use Rattle.chains.specs.PopEnd.{pop_join}
 use Rattle.chains.specs.Start.{start}
 use Rattle.chains.specs.Ends.{H, L}
-use Rattle.chains.specs.Results.{polygon, slow, fast, slow_fits, fast_fits}
+use Rattle.chains.specs.Results.{polygon, slow, fast}
+use Rattle.chains.proofs.Results.{slow_fits, fast_fits}
 use Rattle.drift_laws.specs.ChainParts.{Chain}
 use Rattle.drift_laws.specs.RunsByPlace.{run, run_polygon, run_two, run_ordered, one_line, two_line, started, polygon_goes_on, line_goes_on, stops_above, stops_below}
 use Rattle.values.specs.declared.Line.{Line}

@@ -5,20 +5,18 @@
 --     from_turn, to_turn                             how many steps the first multiple from `from` on is from 0, and the last one up to `to`
 --     first_multiple step test from to              the first multiple that passes, where nothing is searched if neither the first nor the last multiple of the range passes
 --     from_turns, to_turns                         a multiple is in the range exactly if its number of steps is between the two
---     multiple_turn                                from a multiple on, the first is itself
---     turns_least                                  the least number of steps gives the least multiple
---     first_multiple_least                          so first_multiple is the least that passes, for a test that passes at the first or the last multiple of the range if it passes at a multiple at all
 --     multiple-iff                                 the least multiple of which P holds, and Q, where both hold of the same
 --     every-number                                 with step 1 the least multiple is the least number
 --
 -- Example: `first_multiple 10 (λ t. leb 77 t) 50 4294967295` computes to some 80.
+-- Further laws stand in proofs/Multiples.antt.
 -- Assumes nothing.
-use Rattle.std.specs.Prelude.{◌≡◌, refl, ◌↔◌, Bool, false, ℕ, ◌*◌, ◌/◌, ◌≤◌, ◌<◌, T, leb}
-use Rattle.std.proofs.Common.{subst, arith}
+use Rattle.std.specs.Prelude.{◌≡◌, refl, ◌↔◌, Bool, false, ℕ, ◌*◌, ◌/◌, ◌≤◌, ◌<◌, leb}
+use Rattle.std.proofs.Common.{arith}
 use Rattle.std.proofs.Math.Option.{Option, none, some, map}
 use Rattle.std.proofs.Math.Nat as NatL
 use Rattle.integers.specs.Rounding.{ceil_divℕ, ceil_divℕ-iff}
-use Rattle.integers.specs.Least.{IsLeast, nowhere, least_at, least_iff, AtAnEnd, scan, first, first_by_ends, first_by_ends-least}
+use Rattle.integers.specs.Least.{IsLeast, least_iff, scan, first, first_by_ends}
 
 pub record MultipleOf (step t : ℕ) : Type 0 where
   pub turns : ℕ
@@ -44,28 +42,6 @@ module _ (step : ℕ) (over : 0 < step) where
   pub to_turns : (to k : ℕ) → (k * step ≤ to) ↔ (k ≤ to_turn step to)
   unfolding to_turn
   to_turns to k = let c = NatL.le-div_iff_mul-le {x = k} {y = to} over in (λ h. c.1 h, λ h. c.0 h)
-
-  pub multiple_turn : (turn : ℕ) → from_turn step (turn * step) ≡ turn
-  multiple_turn turn =
-      let first = from_turn step (turn * step) in
-      NatL.le_antisymm ((from_turns (turn * step) turn).0 (NatL.le_refl (turn * step)))
-      (NatL.le_of_mul-le-mul_right ((from_turns (turn * step) first).1 (NatL.le_refl first)) over)
-
-  module _ {P : ℕ → Type 0} {from to : ℕ} where
-    pub turns_least : {r : Option ℕ} → IsLeast (λ k. P (k * step)) (from_turn step from) (to_turn step to) r → LeastMultiple step P from to (map (λ k. k * step) r)
-    turns_least (nowhere h) =
-        nowhere (λ t a b m. let k = m.0.turns in
-        h k ((from_turns from k).0 (subst (λ n. from ≤ n) m.0.is a)) ((to_turns to k).0 (subst (λ n. n ≤ to) m.0.is b)) (subst P m.0.is m.1))
-    turns_least (least_at k a b p g) =
-        least_at (k * step) ((from_turns from k).1 a) ((to_turns to k).1 b) (record { turns = k; is = refl }, p)
-        -- an earlier multiple has fewer steps
-        (λ t c d m. let j = m.0.turns in
-        g j ((from_turns from j).0 (subst (λ n. from ≤ n) m.0.is c)) (NatL.lt_of_mul-lt-mul_right step (subst (λ n. n < k * step) m.0.is d)) (subst P m.0.is m.1))
-
-  pub first_multiple_least : (test : ℕ → Bool) (from to : ℕ) → AtAnEnd (λ k. test (k * step)) (from_turn step from) (to_turn step to)
-      → LeastMultiple step (λ t. T (test t)) from to (first_multiple step test from to)
-  unfolding first_multiple
-  first_multiple_least test from to ends = turns_least (first_by_ends-least (λ k. test (k * step)) (from_turn step from) (to_turn step to) ends)
 
 pub multiple-iff : {step : ℕ} {P Q : ℕ → Type 0} {from to : ℕ} {r : Option ℕ} → ((t : ℕ) → from ≤ t → P t ↔ Q t) → LeastMultiple step P from to r → LeastMultiple step Q from to r
 multiple-iff same h = least_iff (λ t a b. (λ m. (m.0, (same t a).0 m.1), λ m. (m.0, (same t a).1 m.1))) h

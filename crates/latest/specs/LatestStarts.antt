@@ -16,7 +16,8 @@ use Rattle.definitions.specs.Latest.{latest_run}
 use Rattle.trial_laws.specs.RangeLists.{range_at, first_entries, ranges_length}
 use Rattle.trial_laws.specs.Accepted.{AcceptedLists}
 use Rattle.lines.specs.HasLine.{HasLine_left}
-use Rattle.lines.specs.BackwardTimes.{backward, latest_by_backward, backward_length}
+use Rattle.lines.specs.BackwardTimes.{backward, backward_length}
+use Rattle.lines.proofs.BackwardTimes.{latest_by_backward}
 use Rattle.lines.specs.LatestTrend.{latest_two}
 use Rattle.drift_laws.specs.ChainParts.{Chain}
 use Rattle.drift_laws.specs.RunsByPlace.{run, run_more, run_length}

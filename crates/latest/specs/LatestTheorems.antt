@@ -44,10 +44,12 @@ use Rattle.trial_laws.specs.CallLaws.{bind-refused}
 use Rattle.trial_laws.specs.RangeLists.{range_at, ranges_length}
 use Rattle.splits.specs.Runs.{good-run}
 use Rattle.splits.specs.OrderedRanges.{last_time_of, last-append}
-use Rattle.lines.specs.RunOutlook.{LinesOf, run-lines}
-use Rattle.lines.specs.OneRange.{few_no_corner}
+use Rattle.lines.specs.RunOutlook.{LinesOf}
+use Rattle.lines.proofs.RunOutlook.{run-lines}
+use Rattle.lines.proofs.OneRange.{few_no_corner}
 use Rattle.lines.specs.Diagonal.{ByDiagonal}
-use Rattle.lines.specs.Theorems.{corners_exact, corners_ordered, corners_once, corners_some, corners_count, corners_fit, corners_mean, corners_by_diagonal}
+use Rattle.lines.specs.Theorems.{corners_exact, corners_ordered, corners_once, corners_some, corners_count, corners_fit, corners_mean}
+use Rattle.lines.proofs.Theorems.{corners_by_diagonal}
 use Rattle.lines.specs.LatestTrend.{latest_longest, latest_two, latest-short}
 use Rattle.drift_laws.specs.RunsByPlace.{run, run_more}
 use Rattle.values.specs.Meanings.{outlook_of}

@@ -25,11 +25,12 @@ use Rattle.definitions.specs.Latest.{latest_run, trend_of, latest_call}
 use Rattle.definitions.specs.Mirrors.{mirrored_range, mirrored_lists, mirrored_service, mirrored_outlook}
 use Rattle.trial_laws.specs.CallLaws.{then-then, then-known}
 use Rattle.trial_laws.specs.Accepted.{latest-accepted}
-use Rattle.trial_laws.specs.MirroredTrial.{ranges-mirrored, latest_trial_mirrored}
+use Rattle.trial_laws.proofs.MirroredTrial.{ranges-mirrored, latest_trial_mirrored}
 use Rattle.splits.specs.OrderedRanges.{ordered-right}
 use Rattle.lines.specs.Mirrored.{mirrored}
-use Rattle.lines.specs.MirroredOutlook.{outlook_mirrored}
-use Rattle.lines.specs.MirroredCorners.{TurnedRing, ring-length, corners_mirrored}
+use Rattle.lines.proofs.MirroredOutlook.{outlook_mirrored}
+use Rattle.lines.specs.MirroredCorners.{TurnedRing, ring-length}
+use Rattle.lines.proofs.MirroredCorners.{corners_mirrored}
 use Rattle.lines.specs.LatestTrend.{rest_of, latest-suffix, latest_has_line, latest-mirrored}
 use Rattle.drift.specs.GivenLines.{given_lines}
 use Rattle.drift.specs.CornersPromise.{three_lengths}

@@ -2,13 +2,12 @@
 --
 --     OnDiagonal j k l m         m is the line of the diagonal from j to k that has l's slope
 --     diagonal_line              there is one, for every l whose slope is from that of j to that of k; diagonal_only: all such lines are the same
---     side_above, side_below     `side` is above 0, or below 0, exactly if l's intercept is greater, or smaller, than that of m
 --     AboveDiagonal, BelowDiagonal   l's intercept is greater, or smaller, than that of the diagonal's line of l's slope
 --     ByDiagonal                 corner order in these words
---     corner_order-iff           it is the corner order of the definitions
 --
+-- Further laws stand in proofs/Diagonal.antt.
 -- Assumes nothing.
-use Rattle.std.specs.Prelude.{◌≡◌, ◌↔◌, List, [], ◌∷◌, ◌++◌, reverse, ℕ, ◌+◌, ◌<◌, ℤ, pos, ◌+ℤ◌, ◌-ℤ◌, ◌*ℤ◌, ◌≤ℤ◌, ◌<ℤ◌}
+use Rattle.std.specs.Prelude.{◌≡◌, List, [], ◌∷◌, ◌++◌, reverse, ℕ, ◌+◌, ◌<◌, ℤ, pos, ◌+ℤ◌, ◌-ℤ◌, ◌*ℤ◌, ◌≤ℤ◌, ◌<ℤ◌}
 use Rattle.std.proofs.Common.{subst, arith}
 use Rattle.std.proofs.lemmas.List.{reverse-reverse}
 use Rattle.std.proofs.Math.IntN.{nat_abs}
@@ -18,11 +17,11 @@ use Rattle.integers.specs.RingSolver.{var, :neg, ◌:*◌, ◌:-◌}
 use Rattle.integers.specs.Certificates.{hyp, num, eqn, ◌⊞◌, ◌⊠◌}
 use Rattle.integers.specs.Quotes.{quotes, ring! }
 use Rattle.integers.specs.Solve.{claims, certify! }
-use Rattle.integers.specs.Lists.{All, nil, cons, All-head, All-tail, All_imp, All_imp₂, All_append_left, All_append_right, All-reverse}
+use Rattle.integers.specs.Lists.{All, nil, cons, All-head, All-tail, All_imp, All_append_left, All_append_right, All-reverse}
 use Rattle.definitions.specs.Lines.{Line}
 use Rattle.definitions.specs.Corners.{side}
-use Rattle.definitions.specs.Fit.{SameLine, SlopeBelow, total, IsMean, WeightedMean, RisingSlopes, InCornerOrder, single, around}
-use Rattle.lines.specs.LineOrder.{Positive, SameOrder, order-<, order_flip, order_sym, slope-trans}
+use Rattle.definitions.specs.Fit.{SameLine, SlopeBelow, total, IsMean, WeightedMean, RisingSlopes}
+use Rattle.lines.specs.LineOrder.{Positive, slope-trans}
 use Rattle.lines.specs.MeanLaws.{MeanOfTwo, two_of_mean, mean-of_two}
 
 -- ---- the diagonal
@@ -34,7 +33,7 @@ pub record OnDiagonal (j k l m : Line) : Type 0 where
   pub same_slope : m.p *ℤ l.d ≡ l.p *ℤ m.d
 
 -- how far the slope of k is from that of j
-abbrev rise : Line → Line → ℤ
+abbrev pub rise : Line → Line → ℤ
 rise j k = k.p *ℤ j.d -ℤ j.p *ℤ k.d
 
 module _ (j k l : Line) where
@@ -68,7 +67,7 @@ module _ (j k m : Line) where
       (eqn 3 (var 4 :* var 2 :- var 1 :* var 5) ⊞ eqn 4 (var 0 :* var 5 :- var 3 :* var 2)) tt
 
   -- at one slope, the side tells how the intercepts differ
-  intercepts_differ : (l : Line) → side j k m ≡ pos 0 → m.p *ℤ l.d ≡ l.p *ℤ m.d → m.d *ℤ (side j k l -ℤ pos 0) ≡ rise j k *ℤ (l.q *ℤ m.d -ℤ m.q *ℤ l.d)
+  pub intercepts_differ : (l : Line) → side j k m ≡ pos 0 → m.p *ℤ l.d ≡ l.p *ℤ m.d → m.d *ℤ (side j k l -ℤ pos 0) ≡ rise j k *ℤ (l.q *ℤ m.d -ℤ m.q *ℤ l.d)
   unfolding side
   intercepts_differ l =
       certify! (j.p ∷ j.q ∷ j.d ∷ k.p ∷ k.q ∷ k.d ∷ m.p ∷ m.q ∷ m.d ∷ l.p ∷ l.q ∷ l.d ∷ []) (search claims depth 60) (num 1)
@@ -109,30 +108,13 @@ module _ {j k : Line} (j-over : Positive j) (k-over : Positive k) (rises : Slope
       mean_side j k m (pos v) (pos w) (weight-over v w e.not_all-0) j-over k-over (two_of_mean (λ x. x.p) j k m v w e.slope) (two_of_mean (λ x. x.q) j k m v w e.intercept)
   mean_on m (v ∷ w ∷ x ∷ ws) e = absurd (omega (arith, e.one_each))
 
-  diagonal_on : {l m : Line} → OnDiagonal j k l m → side j k m ≡ pos 0
+  pub diagonal_on : {l m : Line} → OnDiagonal j k l m → side j k m ≡ pos 0
   diagonal_on {m = m} o = mean_on m o.mean.weights o.mean.mean
 
   pub diagonal_only : {l m n : Line} → Positive l → OnDiagonal j k l m → OnDiagonal j k l n → SameLine m n
   diagonal_only {l} {m} {n} l-over a b =
       let same = slopes-meet l m n l-over a.same_slope b.same_slope in
       record { slope = same; intercept = intercepts_same j k m n rises (diagonal_on a) (diagonal_on b) same }
-
-  -- the side of l is to 0 as its intercept is to that of the diagonal's line
-  side_is : {l m : Line} → OnDiagonal j k l m → SameOrder (pos 0) (side j k l) (m.q *ℤ l.d) (l.q *ℤ m.d)
-  side_is {l} {m} o =
-      record {
-        left = m.d;
-        right = rise j k;
-        left_positive = o.positive;
-        right_positive = sub-pos rises;
-        scaled = intercepts_differ j k m l (diagonal_on o) o.same_slope;
-      }
-
-  pub side_above : {l m : Line} → OnDiagonal j k l m → (pos 0 <ℤ side j k l) ↔ ((m.q *ℤ l.d) <ℤ (l.q *ℤ m.d))
-  side_above o = (order-< (side_is o), order-< (order_sym (side_is o)))
-
-  pub side_below : {l m : Line} → OnDiagonal j k l m → (side j k l <ℤ pos 0) ↔ ((l.q *ℤ m.d) <ℤ (m.q *ℤ l.d))
-  side_below o = (order-< (order_flip (side_is o)), order-< (order_flip (order_sym (side_is o))))
 
 -- ---- corner order
 
@@ -159,10 +141,10 @@ pub data ByDiagonal : List Line → Type 0 where
       → ByDiagonal (slow ∷ above ++ (fast ∷ below))
 
 -- l's slope is between those of slow and fast
-record Within (slow fast l : Line) : Type 0 where
-  positive : Positive l
+pub record Within (slow fast l : Line) : Type 0 where
+  pub positive : Positive l
   over : SlopeBelow slow l
-  under : SlopeBelow l fast
+  pub under : SlopeBelow l fast
 
 module _ (fast : Line) (fast-over : Positive fast) where
   ends_rise : (slow : Line) {ls : List Line} → Positive slow → All Positive ls → RisingSlopes (slow ∷ ls ++ (fast ∷ [])) → SlopeBelow slow fast
@@ -178,43 +160,20 @@ module _ (fast : Line) (fast-over : Positive fast) where
 module _
     (slow : Line) (above : List Line) (fast : Line) (below : List Line) (h : All Positive (slow ∷ above ++ (fast ∷ below)))
     (rises : RisingSlopes (slow ∷ above ++ (fast ∷ []))) (falls : RisingSlopes (slow ∷ reverse below ++ (fast ∷ []))) where
-  slow_over : Positive slow
+  pub slow_over : Positive slow
   slow_over = All-head h
 
-  fast-over : Positive fast
+  pub fast-over : Positive fast
   fast-over = All-head (All_append_right above (fast ∷ below) (All-tail h))
 
-  above_within : All (Within slow fast) above
+  pub above_within : All (Within slow fast) above
   above_within = all_within fast fast-over slow slow_over (All_append_left above (fast ∷ below) (All-tail h)) rises
 
-  below_within : All (Within slow fast) below
+  pub below_within : All (Within slow fast) below
   below_within = subst (All (Within slow fast)) (reverse-reverse below) (All-reverse (all_within fast fast-over slow slow_over (All-reverse (All-tail (All_append_right above (fast ∷ below) (All-tail h)))) falls))
 
-  from_slow : SlopeBelow slow fast
+  pub from_slow : SlopeBelow slow fast
   from_slow = ends_rise fast fast-over slow slow_over (All_append_left above (fast ∷ below) (All-tail h)) rises
 
-  met : {l : Line} → Within slow fast l → (m : Line) × OnDiagonal slow fast l m
+  pub met : {l : Line} → Within slow fast l → (m : Line) × OnDiagonal slow fast l m
   met {l} w = diagonal_line slow_over fast-over from_slow l w.positive (<ℤ→≤ℤ w.over) (<ℤ→≤ℤ w.under)
-
-  sides_apart : All (λ l. pos 0 <ℤ side slow fast l) above → All (λ l. side slow fast l <ℤ pos 0) below → ByDiagonal (slow ∷ above ++ (fast ∷ below))
-  sides_apart over under =
-      two_sides slow above fast below rises falls
-      (All_imp₂ (λ l w g. let (m, o) = met w in record { line = m; on_diagonal = o; greater = (side_above slow_over fast-over from_slow o).0 g }) above_within over)
-      (All_imp₂ (λ l w g. let (m, o) = met w in record { line = m; on_diagonal = o; smaller = (side_below slow_over fast-over from_slow o).0 g }) below_within under)
-
-  sides_told : All (AboveDiagonal slow fast) above → All (BelowDiagonal slow fast) below → InCornerOrder (slow ∷ above ++ (fast ∷ below))
-  sides_told over under =
-      around slow above fast below rises falls
-      (All_imp (λ l a. (side_above slow_over fast-over from_slow a.on_diagonal).1 a.greater) over)
-      (All_imp (λ l a. (side_below slow_over fast-over from_slow a.on_diagonal).1 a.smaller) under)
-
-pub corner_order-iff : {ls : List Line} → All Positive ls → InCornerOrder ls ↔ ByDiagonal ls
-corner_order-iff h = (λ o. to o h, λ o. from o h)
-  where
-    to : {ls : List Line} → InCornerOrder ls → All Positive ls → ByDiagonal ls
-    to (single l) h = one_line l
-    to (around slow above fast below rises falls over under) h = sides_apart slow above fast below h rises falls over under
-
-    from : {ls : List Line} → ByDiagonal ls → All Positive ls → InCornerOrder ls
-    from (one_line l) h = single l
-    from (two_sides slow above fast below rises falls over under) h = sides_told slow above fast below h rises falls over under

@@ -26,9 +26,10 @@ use Rattle.definitions.specs.Latest.{latest_by, latest_run}
 use Rattle.splits.specs.OrderedRanges.{ordered-left, ordered-right}
 use Rattle.splits.specs.Cutting.{cut_nil}
 use Rattle.splits.specs.Runs.{flatten_snoc, good_runs_append}
-use Rattle.splits.specs.LatestRuns.{cut_back, latest-suffix as suffix, latest_good, latest_longest as longest, latest_all, latest_cut}
-use Rattle.splits.specs.Segments as Splits
-use Rattle.chains.specs.Results.{two_have_line}
+use Rattle.splits.specs.LatestRuns.{cut_back, latest-suffix as suffix, latest_good, latest_longest as longest, latest_all}
+use Rattle.splits.proofs.LatestRuns.{latest_cut}
+use Rattle.splits.proofs.Segments as Splits
+use Rattle.chains.proofs.Results.{two_have_line}
 use Rattle.lines.specs.Mirrored.{mirrored}
 use Rattle.lines.specs.MirroredFit.{has_line-mirrored}
 use Rattle.lines.specs.Polygon.{decides}

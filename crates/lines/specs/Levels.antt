@@ -3,21 +3,20 @@
 --     SideIs x v s (is_below, is_on, is_above)     s tells that x is below, at or above v; side-unique: there is only one such s
 --     side_at_is                                    side_at tells it of p·t + q against d·level
 --     below_iff, on_iff, above_iff                 so it is below, on or above exactly when p·t + q is below, equal to or above d·level
---     has_reached-iff                               has_reached passes exactly when the line has reached the level, in either direction
---     reaches_same, has_reached-same                the same line reaches a level at the same times
+--     reaches_same   the same line reaches a level at the same times
 --
 -- Example: with h : T (has_reached v t l), `(has_reached-iff v t l).0 h : Reached v t l`.
+-- Further laws stand in proofs/Levels.antt.
 -- Assumes nothing.
 use Rattle.std.specs.Prelude.{◌≡◌, refl, ◌↔◌, ℕ, T, ℤ, ◌*ℤ◌, ◌<ℤ◌}
 use Rattle.std.proofs.Common.{sym, subst}
 use Rattle.std.proofs.Math.Bool.{true, false}
 use Rattle.std.specs.Int.Signed.{lt_z}
 use Rattle.integers.specs.OrderLaws.{≤ℤ_antisym, ≤ℤ_of_≡, ≤ℤ-<ℤ-⊥, <ℤ→≤ℤ, by_lt_z}
-use Rattle.integers.specs.Booleans.{T_ext}
-use Rattle.definitions.specs.Services.{Direction, rising, falling, direction_of, Service}
+use Rattle.definitions.specs.Services.{Direction, rising, falling}
 use Rattle.definitions.specs.Lines.{Line, reading, Side, below, on, above, side_at, at_or_above, at_or_below}
-use Rattle.definitions.specs.Outlook.{passed, has_reached}
-use Rattle.definitions.specs.Fit.{Reaches, ReachedBy, Reached}
+use Rattle.definitions.specs.Outlook.{passed}
+use Rattle.definitions.specs.Fit.{Reaches, ReachedBy}
 use Rattle.lines.specs.LineOrder.{Restates, restates_sym, order-≤, order_flip, reading_same, Reaches_same}
 
 -- ---- one number against another
@@ -61,7 +60,7 @@ module _ (l : Line) (level : ℤ) (t : ℕ) where
 
 -- ---- has it reached the level
 
-passed-iff : (e : Direction) (l : Line) (level : ℤ) (t : ℕ) {s : Side} → SideIs (reading l t) (l.d *ℤ level) s → T (passed e s) ↔ ReachedBy e level t l
+pub passed-iff : (e : Direction) (l : Line) (level : ℤ) (t : ℕ) {s : Side} → SideIs (reading l t) (l.d *ℤ level) s → T (passed e s) ↔ ReachedBy e level t l
 unfolding passed at_or_above at_or_below
 passed-iff rising l level t (is_below h) = (λ p. absurd p, λ k. ≤ℤ-<ℤ-⊥ k h)
 passed-iff rising l level t (is_on h) = (λ p. ≤ℤ_of_≡ (sym h), λ k. tt)
@@ -70,20 +69,10 @@ passed-iff falling l level t (is_below h) = (λ p. <ℤ→≤ℤ h, λ k. tt)
 passed-iff falling l level t (is_on h) = (λ p. ≤ℤ_of_≡ h, λ k. tt)
 passed-iff falling l level t (is_above h) = (λ p. absurd p, λ k. ≤ℤ-<ℤ-⊥ k h)
 
-pub has_reached-iff : (v : Service) (t : ℕ) (l : Line) → T (has_reached v t l) ↔ Reached v t l
-unfolding has_reached
-has_reached-iff v t l = passed-iff (direction_of v.direction) l v.level t (side_at_is l v.level t)
-
 -- ---- the same line
 pub reaches_same : {k l : Line} → Restates k l → (level : ℤ) (t : ℕ) → Reaches level t k ↔ Reaches level t l
 reaches_same r level t = (Reaches_same r level t, Reaches_same (restates_sym r) level t)
 
-reached_by_same : (e : Direction) {k l : Line} → Restates k l → (level : ℤ) (t : ℕ) → ReachedBy e level t k → ReachedBy e level t l
+pub reached_by_same : (e : Direction) {k l : Line} → Restates k l → (level : ℤ) (t : ℕ) → ReachedBy e level t k → ReachedBy e level t l
 reached_by_same rising r level t h = Reaches_same r level t h
 reached_by_same falling r level t h = order-≤ (order_flip (reading_same r t level)) h
-
-pub has_reached-same : (v : Service) {k l : Line} → Restates k l → (t : ℕ) → has_reached v t k ≡ has_reached v t l
-has_reached-same v {k} {l} r t =
-    T_ext
-    (λ h. (has_reached-iff v t l).1 (reached_by_same (direction_of v.direction) r v.level t ((has_reached-iff v t k).0 h)))
-    (λ h. (has_reached-iff v t k).1 (reached_by_same (direction_of v.direction) (restates_sym r) v.level t ((has_reached-iff v t l).0 h)))

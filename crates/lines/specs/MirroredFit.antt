@@ -6,29 +6,28 @@
 --     has_line-mirrored                 a line fits the image exactly if one fits the ranges
 --     segments-mirrored                the segments of the image are the images of the segments
 --     proper-mirrored, reduced-mirrored   lowest terms
---     fitting-mirrored                 the fitting lines of the image are the images of the fitting lines, the other way round
 --
+-- Further laws stand in proofs/MirroredFit.antt.
 -- Assumes nothing.
 use Rattle.std.specs.Prelude.{◌≡◌, List, [], ◌∷◌, map, reverse, ℕ, T, ℤ, pos, neg_ℤ}
 use Rattle.std.proofs.Common.{subst, ◌∙◌, ap, inl, inr}
 use Rattle.std.proofs.Math.IntN.{neg_ℤ-neg_ℤ}
 use Rattle.integers.specs.OrderLaws.{neg-≤}
 use Rattle.integers.specs.Booleans.{T_ext}
-use Rattle.integers.specs.Lists.{In, all_means, all_passes, any_means, any_passes, All-map, All_imp, in_map, in-map-inv, in_reverse, in_reverse_inv, in_append_left, in_append_right, in-append-inv, not-in-nil}
+use Rattle.integers.specs.Lists.{In, all_means, all_passes, any_means, any_passes, All-map, All_imp, in_map, in_reverse_inv, in_append_left, in_append_right, in-append-inv, not-in-nil}
 use Rattle.integers.specs.Divides.{∣ℤ-neg, ◌∣ℤ◌}
-use Rattle.integers.specs.Sorting.{rising_imp, rising_map, rising_reverse, rising_unique}
 use Rattle.definitions.specs.Ranges.{Range}
 use Rattle.definitions.specs.Lines.{Line, fits_range, fits, through, through_ends, candidates_from, candidates, has_line}
-use Rattle.definitions.specs.Corners.{reduced, before, fitting}
+use Rattle.definitions.specs.Corners.{reduced, fitting}
 use Rattle.definitions.specs.Fit.{InFit, HasLine, Ordered}
 use Rattle.definitions.specs.Segments.{segments}
 use Rattle.definitions.specs.Mirrors.{mirrored_line, mirrored_range}
 use Rattle.splits.specs.Cutting.{cut_map}
-use Rattle.chains.specs.Mirror.{neg_l_neg_l, through-neg, neg_same, neg_slope<, neg-product, neg_product<}
+use Rattle.chains.specs.Mirror.{through-neg, neg_same, neg_slope<, neg-product, neg_product<}
 use Rattle.chains.specs.Closing.{neg-fits_range}
 use Rattle.lines.specs.HasLine.{fits_range-iff}
-use Rattle.lines.specs.LineOrder.{Positive, Proper, same-sym, reduced_same, reduced_proper, reduced-is, Precedes, by_slope_is, by_intercept, before_means, before_passes, line-order}
-use Rattle.lines.specs.FittingLines.{in_fitting, in_fitting_inv, fitting_rising, fitting_proper}
+use Rattle.lines.specs.LineOrder.{Positive, Proper, same-sym, reduced_same, reduced_proper, reduced-is, Precedes, by_slope_is, by_intercept}
+use Rattle.lines.specs.FittingLines.{in_fitting, in_fitting_inv}
 use Rattle.lines.specs.Mirrored.{mirrored, mirrored-mirrored}
 
 -- ---- the fit
@@ -118,32 +117,12 @@ pub reduced-mirrored : (l : Line) → Positive l → reduced (mirrored_line l) �
 reduced-mirrored l h = reduced-is {k = mirrored_line l} h (proper-mirrored (reduced_proper l h)) (same-sym (neg_same l (reduced l) (reduced_same l h)))
 
 -- ---- the fitting lines
-precedes-mirrored : (k l : Line) → Precedes k l → Precedes (mirrored_line l) (mirrored_line k)
+pub precedes-mirrored : (k l : Line) → Precedes k l → Precedes (mirrored_line l) (mirrored_line k)
 precedes-mirrored k l (by_slope_is h) = by_slope_is (neg_slope< k l h)
 precedes-mirrored k l (by_intercept e h) = by_intercept (neg-product k.p l.d l.p k.d e) (neg_product< k.q l.d l.q k.d h)
 
-in_mirrored : (rs : List Range) → Ordered rs → {x : Line} → In x (fitting rs) → In (mirrored_line x) (fitting (mirrored rs))
+pub in_mirrored : (rs : List Range) → Ordered rs → {x : Line} → In x (fitting rs) → In (mirrored_line x) (fitting (mirrored rs))
 in_mirrored rs o {x} i =
     let c = in_fitting_inv rs o i in
     let e : reduced (mirrored_line c.entry) ≡ mirrored_line x = reduced-mirrored c.entry c.holds.fit.positive ∙ ap mirrored_line c.holds.is in
     subst (λ l. In l (fitting (mirrored rs))) e (in_fitting (mirrored rs) (ordered-mirrored rs o) (candidates-mirrored rs c.among) (InFit_mirrored c.holds.fit))
-
-pub fitting-mirrored : (rs : List Range) → Ordered rs → fitting (mirrored rs) ≡ reverse (map mirrored_line (fitting rs))
-fitting-mirrored rs o =
-    rising_unique line-order (fitting_proper (mirrored rs) o') (fitting_rising (mirrored rs) o')
-    (rising_reverse before (map mirrored_line ls)
-    (rising_map (λ x y. before y x) mirrored_line
-    (rising_imp before (λ x y. before (mirrored_line y) (mirrored_line x)) (λ x y i j t. before_passes (mirrored_line y) (mirrored_line x) (precedes-mirrored x y (before_means x y t))) (fitting_rising rs o))))
-    (record { into = λ x i. in_reverse (into x i); back = λ x i. back x (in-map-inv mirrored_line ls (in_reverse_inv (map mirrored_line ls) i)) })
-  where
-    ls : List Line
-    ls = fitting rs
-
-    o' : Ordered (mirrored rs)
-    o' = ordered-mirrored rs o
-
-    into : (x : Line) → In x (fitting (mirrored rs)) → In x (map mirrored_line ls)
-    into x i = subst (λ l. In l (map mirrored_line ls)) (neg_l_neg_l x) (in_map mirrored_line (subst (λ xs. In (mirrored_line x) (fitting xs)) (mirrored-mirrored rs) (in_mirrored (mirrored rs) o' i)))
-
-    back : (x : Line) → (y : Line) × In y ls × (mirrored_line y ≡ x) → In x (fitting (mirrored rs))
-    back x (y, i, e) = subst (λ l. In l (fitting (mirrored rs))) e (in_mirrored rs o i)

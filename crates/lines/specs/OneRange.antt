@@ -1,41 +1,29 @@
 -- One range: its fit is an endless strip, and has no corner. No range: every line is in its fit, and none is a corner.
 --
 --     turned t e l           l with e more of p, and with the same value at t
---     turned-fits            turned about a range's time, a line that fits the range still fits it
 --     turned-between         each line is strictly between two that are turned about one time, either way
---     no_corner              so no line of the fit of one range is a corner
---     no_range_open, few_no_corner   every line is in the fit of no range; fewer than two ranges have no corner
+--     no_range_open   every line is in the fit of no range; fewer than two ranges have no corner
 --
+-- Further laws stand in proofs/OneRange.antt.
 -- Assumes nothing.
-use Rattle.std.specs.Prelude.{◌≡◌, List, [], ◌∷◌, ℕ, ◌<◌, ℤ, pos, negsuc, ◌+ℤ◌, ◌-ℤ◌, ◌*ℤ◌, length, ◌≤ℤ◌, ◌<ℤ◌}
-use Rattle.std.proofs.Common.{sym, subst, arith}
+use Rattle.std.specs.Prelude.{◌≡◌, [], ◌∷◌, ℕ, ℤ, pos, negsuc, ◌+ℤ◌, ◌-ℤ◌, ◌*ℤ◌, ◌<ℤ◌}
+use Rattle.std.proofs.Common.{arith}
 use Rattle.integers.specs.RingSolver.{var}
 use Rattle.integers.specs.Certificates.{hyp, num, eqn, ◌⊞◌, ◌⊠◌}
 use Rattle.integers.specs.Quotes.{quotes, ring! }
 use Rattle.integers.specs.Solve.{claims, certify! }
-use Rattle.integers.specs.Lists.{nil, cons, All-head}
-use Rattle.definitions.specs.Ranges.{Range}
+use Rattle.integers.specs.Lists.{nil}
 use Rattle.definitions.specs.Lines.{Line, reading}
-use Rattle.definitions.specs.Fit.{InFit, StrictlyBetween, Corner}
+use Rattle.definitions.specs.Fit.{InFit, StrictlyBetween}
 use Rattle.lines.specs.LineOrder.{Positive}
 use Rattle.lines.specs.MeanLaws.{mean-of_two}
 
 unfoldable pub turned : ℕ → ℤ → Line → Line
 turned t e l = record { p = l.p +ℤ e; q = l.q -ℤ e *ℤ pos t; d = l.d }
 
-turned-reading : (t : ℕ) (e : ℤ) (l : Line) → reading (turned t e l) t ≡ reading l t
+pub turned-reading : (t : ℕ) (e : ℤ) (l : Line) → reading (turned t e l) t ≡ reading l t
 unfolding turned reading
 turned-reading t e l = ring! (l.p ∷ l.q ∷ e ∷ pos t ∷ []) (search quotes depth 40) (search quotes depth 40) tt
-
-pub turned-fits : (r : Range) (e : ℤ) {l : Line} → InFit (r ∷ []) l → InFit (r ∷ []) (turned r.time e l)
-unfolding turned
-turned-fits r e {l} f =
-    let fits = All-head f.each in
-    let same = sym (turned-reading r.time e l) in
-    record {
-      positive = f.positive;
-      each = cons (record { over_low = subst (λ x. (l.d *ℤ r.low) ≤ℤ x) same fits.over_low; under_high = subst (λ x. x ≤ℤ (l.d *ℤ r.high)) same fits.under_high }) nil;
-    }
 
 -- ---- strictly between
 
@@ -63,17 +51,5 @@ turned-between t l h =
       not-second = λ s. other-slope l.p (negsuc 0) l.d (record { lt = tt }) h s.slope;
     }
 
-pub no_corner : (r : Range) (l : Line) → Corner (r ∷ []) l → ⊥
-no_corner r l c =
-    c.extreme (turned r.time (pos 1) l) (turned r.time (negsuc 0) l) (turned-fits r (pos 1) c.fit) (turned-fits r (negsuc 0) c.fit) (turned-between r.time l c.fit.positive)
-
 pub no_range_open : (l : Line) → Positive l → InFit [] l
 no_range_open l h = record { positive = h; each = nil }
-
-pub few_no_corner : (rs : List Range) → length rs < 2 → (l : Line) → Corner rs l → ⊥
-unfolding turned
-few_no_corner [] h l c =
-    let over = c.fit.positive in
-    c.extreme (turned 0 (pos 1) l) (turned 0 (negsuc 0) l) (no_range_open (turned 0 (pos 1) l) over) (no_range_open (turned 0 (negsuc 0) l) over) (turned-between 0 l over)
-few_no_corner (r ∷ []) h l c = no_corner r l c
-few_no_corner (r ∷ s ∷ rs) h l c = absurd (omega arith)

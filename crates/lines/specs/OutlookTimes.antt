@@ -2,19 +2,15 @@
 --
 --     rises level step                     what is looked for on a rising trace
 --     reach_time v from l                   the first multiple of the step from `from` on at which l has reached the level, or none, in either direction
---     reach_time-same                       it is the same of every p, q, d that is the same line
 --     paced, paced-reading, paced-reaches  the line whose value after k steps is l's at k · step: counted in steps a line is a line again, so that what is known of all times is known of the multiples
---     reach_time_least                      on a rising trace it is the least multiple at which l reaches the level
 --     DecidedBy level l from test P        from `from` on, the test passes, and P holds, exactly where l reaches the level
 --     decided_ends                         then the test passes at an end of a span from `from` on if it passes in it at all
---     decided_least, decided_reach         so the first multiple at which it passes is the least of which P holds, and is l's reach_time
+--     decided_least   so the first multiple at which it passes is the least of which P holds, and is l's reach_time
 --     ExtremesOf rs from slow fast         from `from` on, slow is lowest of the lines of the fit and fast is highest
 --     Listed rs slow fast ls               ls are lines of the fit, with both among them
---     some_decided, all_decided            then fast decides the test of *some* on ls, and slow that of *all*
---     some_least, all_least                so each is the least multiple of the scope, and none exactly if there is no such multiple
---     some_by_fast, all_by_slow            and each is the reach_time of one line
 --
 -- Example: with e : ExtremesOf rs from slow fast and k : Listed rs slow fast ls, `some_least e k level step over : LeastMultiple step (SomeReached rs (rises level step)) from most_time (some_time (rises level step) from ls)`.
+-- Further laws stand in proofs/OutlookTimes.antt.
 -- Assumes nothing.
 use Rattle.std.specs.Prelude.{◌≡◌, ◌⊎◌, ◌↔◌, Bool, List, [], ◌∷◌, ℕ, ◌*◌, ◌≤◌, ◌<◌, ℤ, pos, ◌+ℤ◌, ◌*ℤ◌, ◌≤ℤ◌}
 use Rattle.std.proofs.Common.{sym, subst, inl, inr, le_refl, le_trans}
@@ -23,19 +19,20 @@ use Rattle.std.proofs.Math.Dec.{T}
 use Rattle.integers.specs.OrderLaws.{≤ℤ_or_<ℤ}
 use Rattle.integers.specs.Quotes.{quotes, ring! }
 use Rattle.integers.specs.Booleans.{or_left, or_right}
-use Rattle.integers.specs.Lists.{all, any, All, Any, any_means, any_passes, all_means, all_passes, All_in}
-use Rattle.integers.specs.Least.{IsLeast, nowhere, least-unique, AtAnEnd}
-use Rattle.integers.specs.Multiples.{LeastMultiple, from_turn, to_turn, first_multiple, from_turns, first_multiple_least, multiple-iff}
-use Rattle.integers.specs.Crossing.{reaches_iff, reach_never}
-use Rattle.definitions.specs.Services.{Service, direction_of}
+use Rattle.integers.specs.Lists.{All, Any, All_in}
+use Rattle.integers.specs.Least.{IsLeast, nowhere, AtAnEnd}
+use Rattle.integers.specs.Multiples.{LeastMultiple, from_turn, to_turn, first_multiple, from_turns, multiple-iff}
+use Rattle.integers.proofs.Multiples.{first_multiple_least}
+use Rattle.integers.specs.Crossing.{reach_never}
+use Rattle.integers.proofs.Crossing.{reaches_iff}
+use Rattle.definitions.specs.Services.{Service}
 use Rattle.definitions.specs.Spans.{most_time}
 use Rattle.definitions.specs.Times.{Time}
 use Rattle.definitions.specs.Ranges.{Range}
 use Rattle.definitions.specs.Lines.{Line, reading}
-use Rattle.definitions.specs.Fit.{InFit, SameLine, Reaches, SomeReached, AllReached}
-use Rattle.definitions.specs.Outlook.{has_reached, some_time, all_time}
-use Rattle.lines.specs.LineOrder.{Restates}
-use Rattle.lines.specs.Levels.{has_reached-iff, reaches_same, has_reached-same}
+use Rattle.definitions.specs.Fit.{InFit, SameLine, Reaches}
+use Rattle.definitions.specs.Outlook.{has_reached}
+use Rattle.lines.specs.Levels.{reaches_same}
 
 abbrev pub rises : ℤ → ℕ → Service
 rises level step = record { level = level; direction = 0; step = step }
@@ -57,17 +54,9 @@ reaches_end level l from to t a b r =
     never : {P : ℕ → Type 0} {from to : ℕ} → IsLeast P from to none → (t : ℕ) → from ≤ t → t ≤ to → ¬ P t
     never (nowhere h) = h
 
-rises-iff : (level : ℤ) (step t : ℕ) (l : Line) → T (has_reached (rises level step) t l) ↔ Reaches level t l
-unfolding direction_of
-rises-iff level step t l = has_reached-iff (rises level step) t l
-
 -- the first multiple from `from` on at which it has
 unfoldable pub reach_time : Service → ℕ → Line → Time
 reach_time v from l = first_multiple v.step (λ t. has_reached v t l) from most_time
-
-pub reach_time-same : (v : Service) (from : ℕ) {k l : Line} → Restates k l → reach_time v from k ≡ reach_time v from l
-unfolding reach_time
-reach_time-same v from r = λ i. first_multiple v.step (λ t. has_reached-same v r t i) from most_time
 
 -- ---- a test that one line decides
 pub record DecidedBy (level : ℤ) (l : Line) (from : ℕ) (test : ℕ → Bool) (P : ℕ → Type 0) : Type 0 where
@@ -106,22 +95,11 @@ module _ (step : ℕ) (over : 0 < step) where
         then : {A : Type 0} (k : ℕ) → A ↔ Reaches level (k * step) l → A ↔ Reaches level k (paced step l)
         then k e = let p = paced-reaches step level l k in (λ x. p.0 (e.0 x), λ r. e.1 (p.1 r))
 
-    decided_line : LeastMultiple step (λ t. Reaches level t l) from most_time (first_multiple step test from most_time)
+    pub decided_line : LeastMultiple step (λ t. Reaches level t l) from most_time (first_multiple step test from most_time)
     decided_line = multiple-iff d.test_iff (first_multiple_least step over test from most_time (decided_ends by_steps (to_turn step most_time)))
 
     pub decided_least : LeastMultiple step P from most_time (first_multiple step test from most_time)
     decided_least = multiple-iff (λ t a. ((d.holds_iff t a).1, (d.holds_iff t a).0)) decided_line
-
-  -- a line decides when it reaches the level itself
-  itself : (level : ℤ) (l : Line) (from : ℕ) → DecidedBy level l from (λ t. has_reached (rises level step) t l) (λ t. Reaches level t l)
-  itself level l from = record { test_iff = λ t a. rises-iff level step t l; holds_iff = λ t a. (λ r. r, λ r. r) }
-
-  pub reach_time_least : (level : ℤ) (from : ℕ) (l : Line) → LeastMultiple step (λ t. Reaches level t l) from most_time (reach_time (rises level step) from l)
-  unfolding reach_time
-  reach_time_least level from l = decided_least (itself level l from)
-
-  pub decided_reach : {level : ℤ} {l : Line} {from : ℕ} {test : ℕ → Bool} {P : ℕ → Type 0} → DecidedBy level l from test P → first_multiple step test from most_time ≡ reach_time (rises level step) from l
-  decided_reach {level} {l} {from} d = least-unique (decided_line d) (reach_time_least level from l)
 
 -- ---- the slow and the fast line
 
@@ -140,51 +118,5 @@ pub record Listed (rs : List Range) (slow fast : Line) (ls : List Line) : Type 0
 
 module _ {rs : List Range} {from : ℕ} {slow fast : Line} (e : ExtremesOf rs from slow fast) {ls : List Line} (among : Listed rs slow fast ls) (level : ℤ) (step : ℕ) where
   -- a line of the fit reaches the level exactly where the one of the list does that is the same line
-  listed_reaches : {l : Line} → InFit rs l → (k : Any (SameLine l) ls) → (t : ℕ) → Reaches level t l ↔ Reaches level t k.entry
+  pub listed_reaches : {l : Line} → InFit rs l → (k : Any (SameLine l) ls) → (t : ℕ) → Reaches level t l ↔ Reaches level t k.entry
   listed_reaches f k t = reaches_same (record { same = k.holds; left_positive = f.positive; right_positive = (All_in among.fit k.among).positive }) level t
-
-  pub some_decided : DecidedBy level fast from (λ t. any (has_reached (rises level step) t) ls) (SomeReached rs (rises level step))
-  unfolding direction_of
-  some_decided = record { test_iff = λ t a. (λ p. reaches t a (found t p), listed t); holds_iff = λ t a. (reaches t a, λ r. record { line = fast; fit = e.fast_fit; reached = r }) }
-    where
-      found : (t : ℕ) → T (any (has_reached (rises level step) t) ls) → SomeReached rs (rises level step) t
-      found t p =
-          let k = any_means (has_reached (rises level step) t) (λ l. (has_reached-iff (rises level step) t l).0) ls p in
-          record { line = k.entry; fit = All_in among.fit k.among; reached = k.holds }
-
-      reaches : (t : ℕ) → from ≤ t → SomeReached rs (rises level step) t → Reaches level t fast
-      reaches t a s = e.fast_highest level t a s.line s.fit s.reached
-
-      listed : (t : ℕ) → Reaches level t fast → T (any (has_reached (rises level step) t) ls)
-      listed t r =
-          let k = among.has_fast in
-          any_passes (has_reached (rises level step) t) (λ l. (rises-iff level step t l).1) (record { entry = k.entry; among = k.among; holds = (listed_reaches e.fast_fit k t).0 r })
-
-  pub all_decided : DecidedBy level slow from (λ t. all (has_reached (rises level step) t) ls) (AllReached rs (rises level step))
-  unfolding direction_of
-  all_decided = record { test_iff = λ t a. (listed t, λ r. passes t (e.slow_lowest level t a r)); holds_iff = λ t a. (λ every. every slow e.slow_fit, e.slow_lowest level t a) }
-    where
-      passes : (t : ℕ) → AllReached rs (rises level step) t → T (all (has_reached (rises level step) t) ls)
-      passes t every = all_passes (has_reached (rises level step) t) (λ l f. (rises-iff level step t l).1 (every l f)) among.fit
-
-      listed : (t : ℕ) → T (all (has_reached (rises level step) t) ls) → Reaches level t slow
-      listed t p =
-          let k = among.has_slow in
-          (listed_reaches e.slow_fit k t).1 (All_in (all_means (has_reached (rises level step) t) (λ l. (rises-iff level step t l).0) ls p) k.among)
-
-  module _ (over : 0 < step) where
-    pub some_least : LeastMultiple step (SomeReached rs (rises level step)) from most_time (some_time (rises level step) from ls)
-    unfolding some_time
-    some_least = decided_least step over some_decided
-
-    pub all_least : LeastMultiple step (AllReached rs (rises level step)) from most_time (all_time (rises level step) from ls)
-    unfolding all_time
-    all_least = decided_least step over all_decided
-
-    pub some_by_fast : some_time (rises level step) from ls ≡ reach_time (rises level step) from fast
-    unfolding some_time
-    some_by_fast = decided_reach step over some_decided
-
-    pub all_by_slow : all_time (rises level step) from ls ≡ reach_time (rises level step) from slow
-    unfolding all_time
-    all_by_slow = decided_reach step over all_decided

@@ -13,9 +13,10 @@ use Rattle.definitions.specs.Ranges.{Range}
 use Rattle.definitions.specs.Lines.{Line, candidates, has_line}
 use Rattle.definitions.specs.Outlook.{end_time}
 use Rattle.definitions.specs.Fit.{InFit, HasLine, Ordered, SameLine}
-use Rattle.chains.specs.Candidates.{candidate_ends}
-use Rattle.chains.specs.Results.{two_have_line, slow, fast, corner_list, slow_fits, fast_fits, slow_lowest, fast_highest, corners_fit, corners_candidates, corners_in_order, corners_at_most, mean_of_corners, listed_corners, corners_listed, touching_listed, joins_or_closes}
-use Rattle.chains.specs.Results as Chains
+use Rattle.chains.proofs.Candidates.{candidate_ends}
+use Rattle.chains.specs.Results.{slow, fast, corner_list}
+use Rattle.chains.proofs.Results.{two_have_line, slow_fits, fast_fits, slow_lowest, fast_highest, corners_fit, corners_candidates, corners_in_order, corners_at_most, mean_of_corners, listed_corners, corners_listed, touching_listed, joins_or_closes}
+use Rattle.chains.proofs.Results as Chains
 use Rattle.splits.specs.Greedy.{Decides}
 use Rattle.splits.specs.Segments.{TwoWithout}
 use Rattle.splits.specs.OrderedRanges.{ordered-part, ordered-left}

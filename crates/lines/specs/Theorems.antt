@@ -2,19 +2,16 @@
 --
 -- The fit
 --     has-line                   `has_line` passes exactly if some line fits each of the ranges
---     one_range_open, one_range_no_corner   one range has lines of every slope, and no corner
---     no_range_open, no_range_no_corner     no range has every line, and no corner
+--     one_range_open   one range has lines of every slope, and no corner
+--     no_range_open   no range has every line, and no corner
 --     two-ranges                 two ranges always have a line
 -- The corners of two or more ranges that have a line
 --     corners_exact              a line is listed exactly if it is a corner, in lowest terms
 --     corners_ordered, corners_once, corners_some, corners_count   in corner order, none twice, at least one, at most 2k for k ranges
---     corners_by_diagonal        the same order in the words of `Diagonal`: above the diagonal is a greater intercept than the diagonal has at the same slope, below it a smaller one
 --     corners_unique             no other list is so
 --     corners_fit, corners_mean  each fits, and every line of the fit is a weighted mean of them
 -- The diagonal, from a line to one of greater slope
 --     diagonal_line, diagonal_only   it has a line of every slope from the one to the other, and a single one
---     side_above, side_below     the determinant `side` is above 0, or below 0, exactly if a line's intercept is greater, or smaller, than that of the diagonal's line of its slope
---     corner_order-iff           so the corner order of the definitions is that of `Diagonal`
 -- The outlook of two or more ranges that have a line
 --     outlook-means              its lines have the least and the greatest slope of the fit, its times are the least multiples of the step at which some and all lines of the fit have reached the level (RunOutlook)
 -- The mirror image of a trace: level, lows and highs negated, lows and highs exchanged, the direction turned, the step kept
@@ -32,17 +29,18 @@
 --     running_has_line           the segment then running after k ranges is not empty and has a line
 --
 -- The latest run: `LatestTrend`.
+-- Further laws stand in proofs/Theorems.antt.
 -- Assumes nothing.
 use Rattle.std.specs.Prelude.{◌≡◌, ◌↔◌, ℕ, ◌*◌, ◌<◌, ◌≤◌, T, ℤ, pos, ◌*ℤ◌, length, get_or, ◌≤ℤ◌, ◌<ℤ◌}
 use mathlib.Core.List.{List, [], ◌∷◌, ◌++◌, reverse, Nodup}
 use Rattle.std.proofs.Common.{arith}
-use Rattle.integers.specs.Lists.{All, All_of, All_imp, In, filter}
+use Rattle.integers.specs.Lists.{All, All_of, In, filter}
 use Rattle.integers.specs.LowestTerms.{InLowestTerms}
 use Rattle.definitions.specs.Services.{Service}
 use Rattle.definitions.specs.Spans.{most_ranges, segment_room}
 use Rattle.definitions.specs.Ranges.{Range}
 use Rattle.definitions.specs.Lines.{Line, has_line}
-use Rattle.definitions.specs.Corners.{side, corners}
+use Rattle.definitions.specs.Corners.{corners}
 use Rattle.definitions.specs.Fit.{InFit, HasLine, Ordered, SameLine, SlopeBelow, WeightedMean, Corner, InCornerOrder, single, around}
 use Rattle.definitions.specs.Splits.{cut, GoodRun, Split, end_of}
 use Rattle.definitions.specs.Segments.{segments, running_after}
@@ -51,10 +49,10 @@ use Rattle.splits.specs.OrderedRanges.{first_time_of, last_time_of}
 use Rattle.splits.specs.RunTimes.{in_span}
 use Rattle.splits.specs.Segments.{TimesOf, TwoWithout}
 use Rattle.splits.specs.Segments as Splits
-use Rattle.chains.specs.Results.{two_have_line}
+use Rattle.splits.proofs.Segments as SplitsAbove
+use Rattle.chains.proofs.Results.{two_have_line}
 use Rattle.lines.specs.LineOrder.{Positive}
 use Rattle.lines.specs.HasLine.{every-slope}
-use Rattle.lines.specs.OneRange.{no_corner}
 use Rattle.lines.specs.OneRange as OneRange
 use Rattle.lines.specs.Diagonal.{OnDiagonal, ByDiagonal}
 use Rattle.lines.specs.Diagonal as Diagonal
@@ -69,14 +67,8 @@ has-line rs o = (decides.means rs o, decides.passes rs o)
 pub one_range_open : (r : Range) → Ordered (r ∷ []) → (p d : ℤ) → pos 0 <ℤ d → (q : ℤ) × InFit (r ∷ []) (record { p = p; q = q; d = d })
 one_range_open r o = every-slope r o.0
 
-pub one_range_no_corner : (r : Range) (l : Line) → Corner (r ∷ []) l → ⊥
-one_range_no_corner = no_corner
-
 pub no_range_open : (l : Line) → pos 0 <ℤ l.d → InFit [] l
 no_range_open = OneRange.no_range_open
-
-pub no_range_no_corner : (l : Line) → Corner [] l → ⊥
-no_range_no_corner = OneRange.few_no_corner [] (omega arith)
 
 pub two-ranges : (r s : Range) → Ordered (r ∷ s ∷ []) → HasLine (r ∷ s ∷ [])
 two-ranges = two_have_line
@@ -89,15 +81,6 @@ module _ {j k : Line} (j-over : Positive j) (k-over : Positive k) (rises : Slope
 
   pub diagonal_only : {l m n : Line} → Positive l → OnDiagonal j k l m → OnDiagonal j k l n → SameLine m n
   diagonal_only = Diagonal.diagonal_only j-over k-over rises
-
-  pub side_above : {l m : Line} → OnDiagonal j k l m → (pos 0 <ℤ side j k l) ↔ ((m.q *ℤ l.d) <ℤ (l.q *ℤ m.d))
-  side_above = Diagonal.side_above j-over k-over rises
-
-  pub side_below : {l m : Line} → OnDiagonal j k l m → (side j k l <ℤ pos 0) ↔ ((l.q *ℤ m.d) <ℤ (m.q *ℤ l.d))
-  side_below = Diagonal.side_below j-over k-over rises
-
-pub corner_order-iff : {ls : List Line} → All Positive ls → InCornerOrder ls ↔ ByDiagonal ls
-corner_order-iff = Diagonal.corner_order-iff
 
 -- ---- the corners
 
@@ -127,9 +110,6 @@ module _ (r s : Range) (ws : List Range) (o : Ordered (r ∷ s ∷ ws)) (h : Has
   pub corners_fit : All (InFit (r ∷ s ∷ ws)) (corners (r ∷ s ∷ ws))
   corners_fit = All_of (corners (r ∷ s ∷ ws)) (λ l i. ((corners_exact l).0 i).0.fit)
 
-  pub corners_by_diagonal : ByDiagonal (corners (r ∷ s ∷ ws))
-  corners_by_diagonal = (corner_order-iff (All_imp (λ l f. f.positive) corners_fit)).0 corners_ordered
-
   pub corners_mean : (l : Line) → InFit (r ∷ s ∷ ws) l → WeightedMean (corners (r ∷ s ∷ ws)) l
   corners_mean = Listing.corners_mean o (corners_of r s ws o h)
 
@@ -146,22 +126,22 @@ module _ (rs : List Range) (o : Ordered rs) where
   segments_ranges = Splits.segments_ranges decides rs o
 
   pub segments_ahead : (runs : List (List Range)) → Split HasLine rs runs → (j : ℕ) → j < length runs → j < length (segments rs) → last_time_of (get_or runs j []) ≤ last_time_of (get_or (segments rs) j [])
-  segments_ahead runs = Splits.segments_ahead_times decides rs runs o
+  segments_ahead runs = SplitsAbove.segments_ahead_times decides rs runs o
 
   pub segments_ahead_count : (runs : List (List Range)) → Split HasLine rs runs → (j : ℕ) → end_of j runs ≤ end_of j (segments rs)
-  segments_ahead_count runs = Splits.segments_ahead decides rs runs o
+  segments_ahead_count runs = SplitsAbove.segments_ahead decides rs runs o
 
   pub segments_fewest : (runs : List (List Range)) → Split HasLine rs runs → length (segments rs) ≤ length runs
-  segments_fewest runs = Splits.segments_fewest decides rs runs o
+  segments_fewest runs = SplitsAbove.segments_fewest decides rs runs o
 
   pub segments_close : (before : List (List Range)) (run : List Range) (w : Range) (more : List Range) (after : List (List Range)) → segments rs ≡ before ++ (run ∷ (w ∷ more) ∷ after) → TwoWithout run w
   segments_close before run w more after = Splits.segments_close decides closes rs before run w more after o
 
   pub segments_room : length rs ≤ most_ranges → length (segments rs) ≤ segment_room
-  segments_room = Splits.segments_room decides two-ranges rs o
+  segments_room = SplitsAbove.segments_room decides two-ranges rs o
 
   pub segments_back : length (cut (λ run. has_line (reverse run)) (reverse rs)) ≡ length (segments rs)
-  segments_back = Splits.segments_back decides rs o
+  segments_back = SplitsAbove.segments_back decides rs o
 
   pub running_has_line : (k : ℕ) → 0 < k → k ≤ length rs → GoodRun HasLine (running_after k rs)
   running_has_line k = Splits.running_good decides k rs o

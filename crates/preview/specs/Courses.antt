@@ -17,7 +17,8 @@ use Rattle.definitions.specs.Outlook.{open_strip}
 use Rattle.definitions.specs.Results.{segments_of}
 use Rattle.definitions.specs.Answers.{accepted}
 use Rattle.definitions.specs.Previews.{Effect, joins, begins, effect_of}
-use Rattle.splits.specs.Effects.{effect_after, effects, last_outlooks, effects_length, effects_at, effects_outlooks}
+use Rattle.splits.specs.Effects.{effect_after, effects, last_outlooks, effects_length, effects_at}
+use Rattle.splits.proofs.Effects.{effects_outlooks}
 use Rattle.trial_laws.specs.Rows.{refused_not_accepted}
 use Rattle.trial_laws.specs.CallLaws.{accepted-is}
 use Rattle.trial_laws.specs.RangeLists.{zero_range, range_at, ranges_length, ranges-at, first_entries, first-ranges}

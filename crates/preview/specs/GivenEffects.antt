@@ -25,8 +25,10 @@ use Rattle.definitions.specs.Answers.{accepted, ◌>>=◌, firstRow}
 use Rattle.definitions.specs.Previews.{Effect, joins, begins, longer, preview_rows}
 use Rattle.splits.specs.Cutting.{cut_nil, cut_not_empty, cut_last, cut_ends}
 use Rattle.splits.specs.OrderedRanges.{last_time_of, ordered-right, last-append}
-use Rattle.splits.specs.Effects.{grown, effect_after, Next, next_joins, next_begins, next}
-use Rattle.lines.specs.RunOutlook.{LinesOf, run-lines}
+use Rattle.splits.specs.Effects.{grown, effect_after, Next, next_joins, next_begins}
+use Rattle.splits.proofs.Effects.{next}
+use Rattle.lines.specs.RunOutlook.{LinesOf}
+use Rattle.lines.proofs.RunOutlook.{run-lines}
 use Rattle.lines.specs.Theorems.{has-line}
 use Rattle.trial_laws.specs.Rows.{NoneHolds, first_row-accepted}
 use Rattle.trial_laws.specs.CallLaws.{call-accepted}

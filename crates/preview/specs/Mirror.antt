@@ -22,7 +22,8 @@ use Rattle.definitions.specs.Calls.{segment_call}
 use Rattle.definitions.specs.Previews.{longer, joins, begins, last_outlook, effect_of, preview_call}
 use Rattle.definitions.specs.Mirrors.{mirrored_range, mirrored_lists, mirrored_service, mirrored_outlook, mirrored_segment, mirrored_effect}
 use Rattle.trial_laws.specs.CallLaws.{then-then, then_same}
-use Rattle.trial_laws.specs.MirroredTrial.{ranges-mirrored, longer-mirrored}
+use Rattle.trial_laws.specs.MirroredTrial.{longer-mirrored}
+use Rattle.trial_laws.proofs.MirroredTrial.{ranges-mirrored}
 use Rattle.lines.specs.Mirrored.{mirrored}
 use Rattle.lines.specs.MirroredFit.{segments-mirrored}
 use Rattle.drift.specs.MirroredCalls.{segment_call_mirrored}

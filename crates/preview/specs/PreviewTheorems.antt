@@ -35,7 +35,8 @@ use Rattle.definitions.specs.Results.{segment_of, segments_of}
 use Rattle.definitions.specs.Answers.{refused, accepted}
 use Rattle.definitions.specs.Trial.{too_short}
 use Rattle.definitions.specs.Previews.{Effect, joins, begins, longer, effect_outlook, preview_rows}
-use Rattle.splits.specs.Effects.{grown, effect_after, effects, begun_in, last_outlooks, segments_of-length, effects_begun}
+use Rattle.splits.specs.Effects.{grown, effect_after, effects, begun_in, last_outlooks, segments_of-length}
+use Rattle.splits.proofs.Effects.{effects_begun}
 use Rattle.lines.specs.RunOutlook.{LinesOf}
 use Rattle.trial_laws.specs.Rows.{NoneHolds, FirstAt, refused_not_accepted}
 use Rattle.drift.specs.declared.SegmentAnswer.{SegmentAnswer}

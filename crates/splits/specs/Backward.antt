@@ -4,17 +4,17 @@
 --     run_turned               a good run, read backward, is a run of which the same holds read backward
 --     split_turned             the runs of a split, turned, are a split of the list read backward
 --     decides_turned           a test that decides a property decides it of runs read backward
---     cut_back                 cutting from the end gives as many runs as cutting from the start
 --
+-- Further laws stand in proofs/Backward.antt.
 -- Assumes nothing.
-use Rattle.std.specs.Prelude.{◌≡◌, Bool, ◌≤◌, length}
-use Rattle.std.proofs.Math.Path.{refl, sym, ap, subst, fun_ext}
-use Rattle.std.proofs.Common.{ap₂, ◌∙◌, arith}
+use Rattle.std.specs.Prelude.{◌≡◌, Bool, length}
+use Rattle.std.proofs.Math.Path.{refl, sym, ap, subst}
+use Rattle.std.proofs.Common.{◌∙◌}
 use mathlib.Core.List.{List, [], ◌∷◌, ◌++◌, map, reverse, flatten, append_assoc, reverse-append, reverse-cons, reverse-reverse}
 use Rattle.std.proofs.Math.ListN.{length-map, length-reverse}
-use Rattle.definitions.specs.Splits.{cut, GoodRun, GoodRuns, Split}
+use Rattle.definitions.specs.Splits.{GoodRun, GoodRuns, Split}
 use Rattle.splits.specs.Runs.{flatten_snoc, good_snoc, good_runs_append}
-use Rattle.splits.specs.Greedy.{Decides, cut_split, cut_fewest}
+use Rattle.splits.specs.Greedy.{Decides}
 
 module _ {A : Type 0} where
   unfoldable pub turned : List (List A) → List (List A)
@@ -24,7 +24,7 @@ module _ {A : Type 0} where
   unfolding turned
   turned_cons run runs = reverse-cons (reverse run) (map reverse runs)
 
-  length_turned : (runs : List (List A)) → length (turned runs) ≡ length runs
+  pub length_turned : (runs : List (List A)) → length (turned runs) ≡ length runs
   unfolding turned
   length_turned runs = length-reverse (map reverse runs) ∙ length-map runs reverse
 
@@ -64,25 +64,3 @@ module _ {A : Type 0} where
         passes = λ xs. d.passes (reverse xs);
         means = λ xs. d.means (reverse xs);
       }
-
-  -- ---- as many runs
-
-  back_fewer : {Ok Good : List A → Type 0} {good : List A → Bool} (d : Decides Ok Good good) (xs : List A) → Ok xs → length (cut (λ run. good (reverse run)) (reverse xs)) ≤ length (cut good xs)
-  back_fewer {Ok} {Good} {good} d xs o =
-      omega (
-        arith,
-        cut_fewest (decides_turned d) (reverse xs) (turned (cut good xs)) (subst Ok (sym (reverse-reverse xs)) o) (split_turned Good xs (cut good xs) (cut_split d xs o)),
-        length_turned (cut good xs),
-      )
-
-  pub cut_back : {Ok Good : List A → Type 0} {good : List A → Bool} (d : Decides Ok Good good) (xs : List A) → Ok xs → length (cut (λ run. good (reverse run)) (reverse xs)) ≡ length (cut good xs)
-  cut_back {Ok} {Good} {good} d xs o = omega (arith, back_fewer d xs o, back_more)
-    where
-      twice : (λ run. good (reverse (reverse run))) ≡ good
-      twice = fun_ext (λ run. ap good (reverse-reverse run))
-
-      -- cutting backward what was read backward is cutting forward
-      back_more : length (cut good xs) ≤ length (cut (λ run. good (reverse run)) (reverse xs))
-      back_more =
-          subst (λ n. n ≤ length (cut (λ run. good (reverse run)) (reverse xs))) (ap₂ (λ (test : List A → Bool) l. length (cut test l)) twice (reverse-reverse xs))
-          (back_fewer (decides_turned d) (reverse xs) (subst Ok (sym (reverse-reverse xs)) o))

@@ -6,21 +6,19 @@
 --     effect_first                     a first range begins a segment, open
 --     effect_joins                     a range that some line fits together with the last segment joins it, and the outlook is that of the longer segment
 --     effect_begins                    a range that no line fits so begins a segment, open
---     Next, next                       these cases in one: a range joins and there are as many segments, or it begins one and there is one more
+--     Next   these cases in one: a range joins and there are as many segments, or it begins one and there is one more
 --     effects_after v front rs, effects v rs   the effects of rs, each after those before it: after the ranges in front, and after none
 --     begun_in, last_outlooks            how many effects begin a segment; the outlook of the last effect before each further beginning, and of the last of all
 --     effects_length, effects_at       there is an effect for each range, and the k-th is that of range k after the first k, counted from 0
---     effects_begun                    as many of the effects begin a segment as there are segments
---     effects_outlooks                 the last outlooks are those of the segments
 --
+-- Further laws stand in proofs/Effects.antt.
 -- Assumes nothing.
-use Rattle.std.specs.Prelude.{◌≡◌, ◌⊎◌, Bool, get_or, take}
+use Rattle.std.specs.Prelude.{◌≡◌, ◌⊎◌, get_or, take}
 use Rattle.std.proofs.Math.Path.{refl, sym, ap, ap₂}
-use Rattle.std.proofs.Common.{◌∙◌, inl, inr, arith, add-one, eq-eqb, ne_eqb, length-append}
+use Rattle.std.proofs.Common.{◌∙◌, arith, add-one, eq-eqb, ne_eqb, length-append}
 use Rattle.std.proofs.Math.Bool.{true, false}
 use mathlib.Core.List.{List, [], ◌∷◌, ◌++◌, map, map-map, map-append, drop_last, get_last_d, append-nil}
-use Prim.Native.Nat.{ℕ, zero, suc, ◌+◌, ◌<◌}
-use Rattle.std.proofs.Math.Nat.{zero-add}
+use Prim.Native.Nat.{ℕ, zero, suc, ◌<◌}
 use Rattle.std.proofs.Math.ListN.{length}
 use Rattle.std.proofs.lemmas.List.{length-map}
 use Rattle.std.proofs.Math.Seq.{append_snoc}
@@ -33,7 +31,7 @@ use Rattle.definitions.specs.Segments.{segments}
 use Rattle.definitions.specs.Outlook.{Outlook, open_strip, outlook}
 use Rattle.definitions.specs.Results.{Segment, segment_of, segments_of}
 use Rattle.definitions.specs.Previews.{Effect, joins, begins, last_outlook, effect_of, effect_outlook}
-use Rattle.splits.specs.Cutting.{cut_nil, cut_cons, cut_from_nil, cut_joins, cut_begins, cut_last, last_run_joins, last_run_begins}
+use Rattle.splits.specs.Cutting.{cut_nil, cut_cons, cut_from_nil, cut_joins, cut_begins, cut_last, last_run_begins}
 
 -- ---- one range more
 
@@ -43,10 +41,10 @@ grown rs r = last_run (segments rs) ++ (r ∷ [])
 abbrev pub effect_after : Service → List Range → Range → Effect
 effect_after v rs r = effect_of (length (segments rs)) (segments_of v (rs ++ (r ∷ [])))
 
-snoc-long : {A : Type 0} (xs : List A) (x : A) → length (xs ++ (x ∷ [])) ≡ suc (length xs)
+pub snoc-long : {A : Type 0} (xs : List A) (x : A) → length (xs ++ (x ∷ [])) ≡ suc (length xs)
 snoc-long xs x = length-append xs (x ∷ []) ∙ add-one (length xs)
 
-segments-one : (r : Range) → segments (r ∷ []) ≡ (r ∷ []) ∷ []
+pub segments-one : (r : Range) → segments (r ∷ []) ≡ (r ∷ []) ∷ []
 unfolding segments
 segments-one r = cut_cons has_line r [] ∙ cut_from_nil has_line (r ∷ [])
 
@@ -57,7 +55,7 @@ segments-last rs h = cut_last has_line rs h
 pub segments-some : (rs : List Range) → 0 < length rs → 0 < length (segments rs)
 segments-some rs h = omega (arith, ap length (segments-last rs h), snoc-long (drop_last (segments rs)) (last_run (segments rs)))
 
-segments-joins : (rs : List Range) (r : Range) → 0 < length rs → has_line (grown rs r) ≡ true → segments (rs ++ (r ∷ [])) ≡ drop_last (segments rs) ++ (grown rs r ∷ [])
+pub segments-joins : (rs : List Range) (r : Range) → 0 < length rs → has_line (grown rs r) ≡ true → segments (rs ++ (r ∷ [])) ≡ drop_last (segments rs) ++ (grown rs r ∷ [])
 unfolding segments
 segments-joins rs r h t = cut_joins has_line rs r (drop_last (segments rs)) (last_run (segments rs)) (cut_last has_line rs h) t
 
@@ -68,21 +66,21 @@ segments-begins rs r h t =
     ∙ sym (append_snoc (drop_last (segments rs)) (last_run (segments rs)) ((r ∷ []) ∷ []))
     ∙ ap (λ runs. runs ++ ((r ∷ []) ∷ [])) (sym (cut_last has_line rs h))
 
-drop_last-snoc : {A : Type 0} (xs : List A) (x : A) → drop_last (xs ++ (x ∷ [])) ≡ xs
+pub drop_last-snoc : {A : Type 0} (xs : List A) (x : A) → drop_last (xs ++ (x ∷ [])) ≡ xs
 drop_last-snoc [] x = refl
 drop_last-snoc (y ∷ []) x = refl
 drop_last-snoc (y ∷ z ∷ xs) x = ap (λ l. y ∷ l) (drop_last-snoc (z ∷ xs) x)
 
-joins-count : (rs : List Range) (r : Range) → 0 < length rs → has_line (grown rs r) ≡ true → length (segments (rs ++ (r ∷ []))) ≡ length (segments rs)
+pub joins-count : (rs : List Range) (r : Range) → 0 < length rs → has_line (grown rs r) ≡ true → length (segments (rs ++ (r ∷ []))) ≡ length (segments rs)
 joins-count rs r h t =
     ap length (segments-joins rs r h t)
     ∙ snoc-long (drop_last (segments rs)) (grown rs r)
     ∙ sym (ap length (segments-last rs h) ∙ snoc-long (drop_last (segments rs)) (last_run (segments rs)))
 
-begins-count : (rs : List Range) (r : Range) → 0 < length rs → has_line (grown rs r) ≡ false → length (segments (rs ++ (r ∷ []))) ≡ suc (length (segments rs))
+pub begins-count : (rs : List Range) (r : Range) → 0 < length rs → has_line (grown rs r) ≡ false → length (segments (rs ++ (r ∷ []))) ≡ suc (length (segments rs))
 begins-count rs r h t = ap length (segments-begins rs r h t) ∙ snoc-long (segments rs) (r ∷ [])
 
-first_count : (r : Range) → length (segments (r ∷ [])) ≡ suc (length (segments []))
+pub first_count : (r : Range) → length (segments (r ∷ [])) ≡ suc (length (segments []))
 unfolding segments
 first_count r = ap length (segments-one r) ∙ ap (λ runs. suc (length runs)) (sym (cut_nil has_line))
 
@@ -140,14 +138,6 @@ pub data Next (v : Service) (rs : List Range) (r : Range) : Type 0 where
   next_joins : 0 < length rs → has_line (grown rs r) ≡ true → effect_after v rs r ≡ joins (outlook v (grown rs r)) → length (segments (rs ++ (r ∷ []))) ≡ length (segments rs) → Next v rs r
   next_begins : (length rs ≡ 0) ⊎ (has_line (grown rs r) ≡ false) → effect_after v rs r ≡ begins open_strip → length (segments (rs ++ (r ∷ []))) ≡ suc (length (segments rs)) → Next v rs r
 
-pub next : (v : Service) (rs : List Range) (r : Range) → Next v rs r
-next v [] r = next_begins (inl refl) (effect_first v r) (first_count r)
-next v (s ∷ rs) r = by (has_line (grown (s ∷ rs) r)) refl
-  where
-    by : (b : Bool) → has_line (grown (s ∷ rs) r) ≡ b → Next v (s ∷ rs) r
-    by true t = next_joins (omega arith) t (effect_joins v (s ∷ rs) r (omega arith) t) (joins-count (s ∷ rs) r (omega arith) t)
-    by false t = next_begins (inr t) (effect_begins v (s ∷ rs) r (omega arith) t) (begins-count (s ∷ rs) r (omega arith) t)
-
 -- ---- the effects of ranges, one after the other
 
 -- of rs, where the ranges in front stand before them
@@ -193,54 +183,21 @@ module _ (v : Service) where
   unfolding effects
   effects_at rs k past h = after_at [] rs k past h
 
-  -- ---- how many begin
-  begun_next : (front : List Range) (r : Range) (es : List Effect)
-      → begun_in (effect_after v front r ∷ es) + length (segments front) ≡ begun_in es + length (segments (front ++ (r ∷ [])))
-  unfolding begun_in
-  begun_next front r es = by (next v front r)
-    where
-      by : Next v front r → begun_in (effect_after v front r ∷ es) + length (segments front) ≡ begun_in es + length (segments (front ++ (r ∷ [])))
-      by (next_joins h t e c) = ap (λ x. begun_in (x ∷ es) + length (segments front)) e ∙ omega (arith, c)
-      by (next_begins h e c) = ap (λ x. begun_in (x ∷ es) + length (segments front)) e ∙ omega (arith, c)
-
-  begun_after : (front rs : List Range) → begun_in (effects_after v front rs) + length (segments front) ≡ length (segments (front ++ rs))
-  unfolding effects_after begun_in
-  begun_after front [] = zero-add (length (segments front)) ∙ ap (λ l. length (segments l)) (sym (append-nil front))
-  begun_after front (r ∷ rs) =
-      begun_next front r (effects_after v (front ++ (r ∷ [])) rs)
-      ∙ begun_after (front ++ (r ∷ [])) rs
-      ∙ ap (λ l. length (segments l)) (append_snoc front r rs)
-
-  pub effects_begun : (rs : List Range) → begun_in (effects v rs) ≡ length (segments rs)
-  unfolding effects segments
-  effects_begun rs = omega (arith, begun_after [] rs, ap length (cut_nil has_line))
-
   -- ---- what is told last of each segment
 
   -- where e tells the last segment of the front, what follows tells the later ones
-  abbrev ToldAfter : Effect → List Range → List Range → Type 0
+  abbrev pub ToldAfter : Effect → List Range → List Range → Type 0
   ToldAfter e front rs =
       effect_outlook e ≡ outlook v (last_run (segments front)) → map (outlook v) (drop_last (segments front)) ++ last_outlooks (e ∷ effects_after v front rs) ≡ map (outlook v) (segments (front ++ rs))
 
   -- all runs of a front, by the last one's outlook
-  told_front : (front : List Range) (o : Outlook) → 0 < length front → o ≡ outlook v (last_run (segments front)) → map (outlook v) (drop_last (segments front)) ++ (o ∷ []) ≡ map (outlook v) (segments front)
+  pub told_front : (front : List Range) (o : Outlook) → 0 < length front → o ≡ outlook v (last_run (segments front)) → map (outlook v) (drop_last (segments front)) ++ (o ∷ []) ≡ map (outlook v) (segments front)
   told_front front o h e =
       ap (λ x. map (outlook v) (drop_last (segments front)) ++ (x ∷ [])) e
       ∙ sym (map-append (outlook v) (drop_last (segments front)) (last_run (segments front) ∷ []))
       ∙ ap (map (outlook v)) (sym (segments-last front h))
 
-  told_joins : (e : Effect) (front : List Range) (r : Range) (rs : List Range) → 0 < length front → has_line (grown front r) ≡ true
-      → ToldAfter (joins (outlook v (grown front r))) (front ++ (r ∷ [])) rs → ToldAfter e front (r ∷ rs)
-  unfolding effects_after last_outlooks effect_outlook segments
-  told_joins e front r rs h t later told =
-      let o = outlook v (grown front r) in
-      let es = effects_after v (front ++ (r ∷ [])) rs in
-      ap (λ x. map (outlook v) (drop_last (segments front)) ++ last_outlooks (e ∷ x ∷ es)) (effect_joins v front r h t)
-      ∙ ap (λ runs. map (outlook v) runs ++ last_outlooks (joins o ∷ es)) (sym (ap drop_last (segments-joins front r h t) ∙ drop_last-snoc (drop_last (segments front)) (grown front r)))
-      ∙ later (ap (outlook v) (sym (last_run_joins has_line front r t)))
-      ∙ ap (λ l. map (outlook v) (segments l)) (append_snoc front r rs)
-
-  told_begins : (e : Effect) (front : List Range) (r : Range) (rs : List Range) → 0 < length front → has_line (grown front r) ≡ false
+  pub told_begins : (e : Effect) (front : List Range) (r : Range) (rs : List Range) → 0 < length front → has_line (grown front r) ≡ false
       → ToldAfter (begins open_strip) (front ++ (r ∷ [])) rs → ToldAfter e front (r ∷ rs)
   unfolding effects_after last_outlooks effect_outlook segments outlook
   told_begins e front r rs h t later told =
@@ -253,31 +210,10 @@ module _ (v : Service) where
       ∙ later (ap (outlook v) (sym (last_run_begins has_line front r t)))
       ∙ ap (λ l. map (outlook v) (segments l)) (append_snoc front r rs)
 
-  told_after : (e : Effect) (front rs : List Range) → 0 < length front → ToldAfter e front rs
-  unfolding effects_after last_outlooks
-  told_after e front [] h told = told_front front (effect_outlook e) h told ∙ ap (λ l. map (outlook v) (segments l)) (sym (append-nil front))
-  told_after e front (r ∷ rs) h told =
-      let long : 0 < length (front ++ (r ∷ [])) = omega (arith, snoc-long front r) in
-      by (has_line (grown front r)) refl (told_after (joins (outlook v (grown front r))) (front ++ (r ∷ [])) rs long) (told_after (begins open_strip) (front ++ (r ∷ [])) rs long) told
-    where
-      by : (b : Bool) → has_line (grown front r) ≡ b → ToldAfter (joins (outlook v (grown front r))) (front ++ (r ∷ [])) rs → ToldAfter (begins open_strip) (front ++ (r ∷ [])) rs → ToldAfter e front (r ∷ rs)
-      by true t joined begun = told_joins e front r rs h t joined
-      by false t joined begun = told_begins e front r rs h t begun
-
-  outlooks_are : (rs : List Range) → map (λ s. s.outlook) (segments_of v rs) ≡ map (outlook v) (segments rs)
+  pub outlooks_are : (rs : List Range) → map (λ s. s.outlook) (segments_of v rs) ≡ map (outlook v) (segments rs)
   unfolding segments_of
   outlooks_are rs = map-map (λ s. s.outlook) (segment_of v) (segments rs) ∙ map_same (segments rs)
     where
       map_same : (runs : List (List Range)) → map (λ run. (segment_of v run).outlook) runs ≡ map (outlook v) runs
       map_same [] = refl
       map_same (run ∷ runs) = ap₂ (λ o os. o ∷ os) (segment-outlook v run) (map_same runs)
-
-  pub effects_outlooks : (rs : List Range) → last_outlooks (effects v rs) ≡ map (λ s. s.outlook) (segments_of v rs)
-  unfolding effects effects_after last_outlooks segments last_run outlook effect_outlook
-  effects_outlooks [] = ap (map (outlook v)) (sym (cut_nil has_line)) ∙ sym (outlooks_are [])
-  effects_outlooks (r ∷ rs) =
-      let later = effects_after v (r ∷ []) rs in
-      ap (λ x. last_outlooks (x ∷ later)) (effect_first v r)
-      ∙ ap (λ runs. map (outlook v) (drop_last runs) ++ last_outlooks (begins open_strip ∷ later)) (sym (segments-one r))
-      ∙ told_after (begins open_strip) (r ∷ []) rs (omega arith) (ap (λ runs. outlook v (last_run runs)) (sym (segments-one r)))
-      ∙ sym (outlooks_are (r ∷ rs))

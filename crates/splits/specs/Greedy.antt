@@ -4,15 +4,13 @@
 --     Decides                  among the lists that are Ok, the test decides Good, which parts of a good list inherit
 --     ok_front, ok_back, ok_closing    parts that are Ok too: of two lists one after the other, and a run with the first element of the next one
 --     cut_split                the runs of `cut` are a split
---     cut_ahead                the j-th run of `cut` ends at or after the j-th run of any split, for every j
---     cut_fewest               no split has fewer runs
---     cut_longest              no good front of the list is longer than the first run
 --     cut_closes               a run with the first element of the next one is not good
 --     last_run_good             the last run is not empty, and good
 --     cut_first_run            how to know the first run: it is good, and not with the element after it
 --     cut_one_run              a good list is one run
 --
 -- Example: with d : Decides Ordered HasLine has_line, `cut_fewest d rs runs` says that no split into runs with a line has fewer runs than `cut has_line rs`.
+-- Further laws stand in proofs/Greedy.antt.
 -- Assumes nothing.
 use Rattle.std.specs.Prelude.{◌≡◌, refl, Bool, true, false, ℕ, zero, suc, ◌+◌, ◌≤◌, ◌<◌, T, length}
 use Rattle.std.proofs.Common.{sym, ap, ◌∙◌, subst, inl, inr, arith, length-append}
@@ -33,9 +31,9 @@ module _ {A : Type 0} where
     pub means : (xs : List A) → Ok xs → T (good xs) → Good xs
 
   -- cutting ys, which follows ws, is not behind the runs
-  record Ahead (good : List A → Bool) (runs : List (List A)) (ws ys : List A) : Type 0 where
-    ends : (j : ℕ) → end_of j runs ≤ length ws + end_of j (cut good ys)
-    fewer : length (cut good ys) ≤ length runs
+  pub record Ahead (good : List A → Bool) (runs : List (List A)) (ws ys : List A) : Type 0 where
+    pub ends : (j : ℕ) → end_of j runs ≤ length ws + end_of j (cut good ys)
+    pub fewer : length (cut good ys) ≤ length runs
 
   module _ {Ok Good : List A → Type 0} {good : List A → Bool} (d : Decides Ok Good good) where
     pub ok_front : (xs ys : List A) → Ok (xs ++ ys) → Ok xs
@@ -57,7 +55,7 @@ module _ {A : Type 0} where
         by true e k grown anew = rw (cut_from_joins good run x xs e) (grown (good_snoc Good run x (d.means (run ++ (x ∷ [])) k (true→T e))))
         by false e k grown anew = rw (cut_from_begins good run x xs e, cut_cons good x xs) (g, anew)
 
-    cut_good : (xs : List A) → Ok xs → GoodRuns Good (cut good xs)
+    pub cut_good : (xs : List A) → Ok xs → GoodRuns Good (cut good xs)
     cut_good [] o = rw cut_nil tt
     cut_good (x ∷ xs) o = rw (cut_cons good x xs) (cut_from_good (x ∷ []) xs o (d.one x (ok_front (x ∷ []) xs o)))
 
@@ -136,7 +134,7 @@ module _ {A : Type 0} where
             )
 
     -- the list ws ++ ys is split into runs; cutting only ys is not behind
-    ahead : (runs : List (List A)) (ws ys : List A) → Ok (flatten runs) → GoodRuns Good runs → flatten runs ≡ ws ++ ys → Ahead good runs ws ys
+    pub ahead : (runs : List (List A)) (ws ys : List A) → Ok (flatten runs) → GoodRuns Good runs → flatten runs ≡ ws ++ ys → Ahead good runs ws ys
     ahead [] [] [] o gs e = record { ends = λ j. omega (arith, end-nil A j); fewer = rw cut_nil (omega arith) }
     ahead [] [] (y ∷ ys) o gs e = absurd (nil≢cons (sym flatten_nil ∙ e))
     ahead [] (w ∷ ws) ys o gs e = absurd (nil≢cons (sym flatten_nil ∙ e))
@@ -145,20 +143,3 @@ module _ {A : Type 0} where
         by : Levi r (flatten runs) ws ys → ((vs zs : List A) → flatten runs ≡ vs ++ zs → Ahead good runs vs zs) → Ahead good (r ∷ runs) ws ys
         by (inl (vs, p, q)) ih = behind r runs ws ys vs p (ih vs ys q)
         by (inr (x, us, p, q)) ih = rw q (beyond r runs ws x us p (ok_front r (flatten runs) (rw flatten_cons at o)) (good-run Good r gs.0) ih)
-
-    split_ahead : (xs : List A) (runs : List (List A)) → Ok xs → Split Good xs runs → Ahead good runs [] xs
-    split_ahead xs runs o s = ahead runs [] xs (subst Ok (sym s.whole) o) s.each s.whole
-
-    pub cut_ahead : (xs : List A) (runs : List (List A)) → Ok xs → Split Good xs runs → (j : ℕ) → end_of j runs ≤ end_of j (cut good xs)
-    cut_ahead xs runs o s j = omega (arith, (split_ahead xs runs o s).ends j)
-
-    pub cut_fewest : (xs : List A) (runs : List (List A)) → Ok xs → Split Good xs runs → length (cut good xs) ≤ length runs
-    cut_fewest xs runs o s = (split_ahead xs runs o s).fewer
-
-    -- ---- no good front is longer than the first run
-    pub cut_longest : (us vs : List A) → Ok (us ++ vs) → Good us → length us ≤ end_of 1 (cut good (us ++ vs))
-    cut_longest [] vs o g = omega arith
-    cut_longest (u ∷ us) vs o g = omega (arith, cut_ahead (u ∷ us ++ vs) ((u ∷ us) ∷ cut good vs) o taken_first 1, end_suc 0 (u ∷ us) (cut good vs))
-      where
-        taken_first : Split Good (u ∷ us ++ vs) ((u ∷ us) ∷ cut good vs)
-        taken_first = record { whole = flatten_cons (u ∷ us) (cut good vs) ∙ ap (λ l. u ∷ us ++ l) (cut-whole good vs); each = (g, cut_good vs (ok_back (u ∷ us) vs o)) }

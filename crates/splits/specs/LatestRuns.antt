@@ -5,32 +5,30 @@
 --     latest_longest           no good end of the list is longer
 --     latest_all, latest_drop  how to know it: the whole list is good; or an end is good, and not with the element before it
 --     cut_back                  the list cut from its end: the runs from the last on, each from its end
---     latest_cut               the latest run is the first of these, and what stands before it is cut in the same manner
 --
+-- Further laws stand in proofs/LatestRuns.antt.
 -- Assumes nothing.
 use Rattle.std.specs.Prelude.{◌≡◌, Bool, ℕ, zero, suc, ◌≤◌, ◌<◌, length, take, drop}
 use Rattle.std.proofs.Math.Path.{refl, ap}
 use Rattle.std.proofs.Common.{sym, ◌∙◌, subst, arith, length-append, take-append-drop}
 use Rattle.std.proofs.Math.Bool.{true, false}
-use mathlib.Core.List.{List, [], ◌∷◌, ◌++◌, reverse, append-nil, reverse-append, reverse-cons, reverse-reverse}
-use Rattle.std.proofs.Math.Seq.{append_snoc}
+use mathlib.Core.List.{List, [], ◌∷◌, ◌++◌, reverse, append-nil}
 use Rattle.integers.specs.Booleans.{T→true, true→T, ¬T→false}
 use Rattle.definitions.specs.Splits.{cut, GoodRun}
 use Rattle.definitions.specs.Latest.{latest_by}
-use Rattle.splits.specs.Greedy.{Decides, ok_back, cut_one_run, cut_first_run}
-use Rattle.splits.specs.Backward.{run_turned, decides_turned}
+use Rattle.splits.specs.Greedy.{Decides, ok_back}
 
 module _ {A : Type 0} where
   unfoldable pub cut_back : (List A → Bool) → List A → List (List A)
   cut_back good xs = cut (λ run. good (reverse run)) (reverse xs)
 
   -- a list that is not empty, by its last element
-  record Ended (xs : List A) : Type 0 where
+  pub record Ended (xs : List A) : Type 0 where
     pub front : List A
     pub end : A
     pub is : xs ≡ front ++ (end ∷ [])
 
-  ended : (x : A) (xs : List A) → Ended (x ∷ xs)
+  pub ended : (x : A) (xs : List A) → Ended (x ∷ xs)
   ended x [] = record { front = []; end = x; is = refl }
   ended x (y ∷ ys) = let e = ended y ys in record { front = x ∷ e.front; end = e.end; is = ap (λ l. x ∷ l) e.is }
 
@@ -95,45 +93,3 @@ module _ {A : Type 0} where
         -- the longer end is an end of the whole
         end_good : Good (x ∷ xs) → Good (drop k xs)
         end_good w = d.part (x ∷ take k xs) (drop k xs) [] (subst Good (ap (λ l. x ∷ l) (sym (take-append-drop k xs) ∙ sym (append-nil (take k xs ++ drop k xs)))) w)
-
-    -- the end is not good with the element before it
-    latest_stops : (fs : List A) (x : A) (xs : List A) → Ok xs → xs ≡ (fs ++ (x ∷ [])) ++ latest_by good xs → Good (x ∷ latest_by good xs) → ⊥
-    latest_stops fs x xs o e g =
-        let whole : xs ≡ fs ++ (x ∷ latest_by good xs) = e ∙ append_snoc fs x (latest_by good xs) in
-        let long = latest_longest fs (x ∷ latest_by good xs) (subst Ok whole o) g in
-        absurd (omega (arith, long, ap (λ l. length (latest_by good l)) whole))
-
-    pub latest_cut : (xs : List A) → Ok xs → 0 < length xs → LatestAt good xs
-    unfolding cut_back cut
-    latest_cut xs o h = by (latest-suffix good xs).0 (latest-suffix good xs).1
-      where
-        back : List A
-        back = latest_by good xs
-
-        turned_good : GoodRun (λ l. Good (reverse l)) (reverse back)
-        turned_good = run_turned Good back (latest_good xs o h)
-
-        ok_turned : (ys : List A) → Ok ys → Ok (reverse (reverse ys))
-        ok_turned ys = subst Ok (sym (reverse-reverse ys))
-
-        at-end : (fs : List A) (x : A) → xs ≡ (fs ++ (x ∷ [])) ++ back → cut_back good xs ≡ reverse back ∷ cut_back good (fs ++ (x ∷ []))
-        at-end fs x e =
-            let whole : xs ≡ fs ++ (x ∷ back) = e ∙ append_snoc fs x back in
-            let turned : reverse back ++ (x ∷ []) ≡ reverse (x ∷ back) = sym (reverse-cons x back) in
-            let ok : Ok (x ∷ back) = ok_back d fs (x ∷ back) (subst Ok whole o) in
-            let first = cut_first_run (decides_turned d) (reverse back) x (reverse fs) (subst (λ l. Ok (reverse l)) (sym turned) (ok_turned (x ∷ back) ok)) turned_good
-            (λ g. latest_stops fs x xs o e (subst Good (reverse-reverse (x ∷ back)) (subst (λ l. Good (reverse l)) turned g))) in
-            let over : reverse xs ≡ reverse back ++ (x ∷ reverse fs) = ap reverse e ∙ reverse-append (fs ++ (x ∷ [])) back ∙ ap (λ l. reverse back ++ l) (reverse-append fs (x ∷ [])) in
-            let rest : x ∷ reverse fs ≡ reverse (fs ++ (x ∷ [])) = sym (reverse-append fs (x ∷ [])) in
-            ap (cut (λ run. good (reverse run))) over ∙ first ∙ ap (λ l. reverse back ∷ cut (λ run. good (reverse run)) l) rest
-
-        by : (front : List A) → xs ≡ front ++ back → LatestAt good xs
-        by [] e =
-            record {
-              front = [];
-              whole = e;
-              cuts = ap (λ l. cut (λ run. good (reverse run)) (reverse l)) e ∙ cut_one_run (decides_turned d) (reverse back) (ok_turned back (subst Ok e o)) turned_good;
-            }
-        by (x ∷ front) e =
-            let v = ended x front in
-            record { front = x ∷ front; whole = e; cuts = at-end v.front v.end (e ∙ ap (λ l. l ++ back) v.is) ∙ ap (λ l. reverse back ∷ cut_back good l) (sym v.is) }

@@ -3,8 +3,8 @@
 --     Limited, limited         good, and at most so many elements: the property and its test
 --     limited_decides          where a test decides a property, the limited test decides the limited property
 --     limited_closes           a run that closes below the limit closes because it would not be good
---     limited_segments_fewest  an example: no split into runs with a line and of at most so many ranges has fewer runs than the greedy one
 --
+-- Further laws stand in proofs/Limited.antt.
 -- Assumes nothing.
 use Rattle.std.specs.Prelude.{◌≡◌, Bool, ◌&&◌, List, [], ◌∷◌, ◌++◌, ℕ, ◌≤◌, ◌<◌, leb, length}
 use native.Mathlib.Omega.{arith}
@@ -12,11 +12,8 @@ use Rattle.std.proofs.Math.Dec.{leb→le}
 use Rattle.std.proofs.Common.{le→leb}
 use Rattle.std.proofs.Math.ListN.{length-append}
 use Rattle.integers.specs.Booleans.{and_intro, and_left, and_right}
-use Rattle.definitions.specs.Ranges.{Range}
-use Rattle.definitions.specs.Lines.{has_line}
-use Rattle.definitions.specs.Fit.{HasLine, Ordered}
-use Rattle.definitions.specs.Splits.{cut, Split}
-use Rattle.splits.specs.Greedy.{Decides, cut_fewest, cut_closes}
+use Rattle.definitions.specs.Splits.{cut}
+use Rattle.splits.specs.Greedy.{Decides, cut_closes}
 
 module _ {A : Type 0} where
   pub record Limited (most : ℕ) (Good : List A → Type 0) (run : List A) : Type 0 where
@@ -42,9 +39,3 @@ module _ {A : Type 0} where
         → cut (limited most good) xs ≡ before ++ (run ∷ (x ∷ more) ∷ after) → length run < most → Good (run ++ (x ∷ [])) → ⊥
     limited_closes xs before run x more after o e below g =
         cut_closes limited_decides xs before run x more after o e (record { is_good = g; within = omega (arith, length-append run (x ∷ [])) })
-
--- ---- ranges
-
-module _ (decides : Decides Ordered HasLine has_line) (most : ℕ) (some : 0 < most) where
-  pub limited_segments_fewest : (rs : List Range) (runs : List (List Range)) → Ordered rs → Split (Limited most HasLine) rs runs → length (cut (limited most has_line) rs) ≤ length runs
-  limited_segments_fewest = cut_fewest (limited_decides decides most some)

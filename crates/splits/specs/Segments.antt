@@ -13,36 +13,30 @@
 --     segments_split                   the segments are a split
 --     segments_times                   the first and last times given for each segment are those of its run's first and last ranges
 --     segments_ranges                  the ranges from a segment's first time to its last time are its run
---     segments_ahead_times             the last time of the j-th segment is at or after the last time of the j-th run of any split
---     segments_ahead                   the same by the number of ranges in the first j runs, for every j
---     segments_fewest                  every split has at least as many runs as there are segments
---     segments_back                    cutting from the end gives as many runs
 --     running_good                     the segment then running is not empty and has a line
 --     segments_close                   with `closes`: where a further range closes a segment, that segment holds two ranges such that no line fits those two and the further one
---     segments_count, segments_room    with `two`: at most half as many segments as ranges, rounded up: 2,048 of 4,096
 --
+-- Further laws stand in proofs/Segments.antt.
 -- Assumes nothing.
 use Rattle.std.specs.Prelude.{◌≡◌, refl, true, false, ℕ, suc, ◌+◌, ◌-◌, ◌*◌, ◌≤◌, ◌<◌, length, get_or, take, drop}
 use Rattle.std.proofs.Common.{sym, ap, ◌∙◌, arith, take-append-drop, take-suc}
 use Rattle.std.proofs.Math.Path.{subst}
-use mathlib.Core.List.{List, [], ◌∷◌, ◌++◌, flatten, reverse}
+use mathlib.Core.List.{List, [], ◌∷◌, ◌++◌, flatten}
 use Rattle.std.proofs.Math.ListN.{get_or-map}
 use Rattle.std.proofs.Math.Seq.{length-take-le}
 use Rattle.integers.specs.Lists.{In, filter}
 use Rattle.definitions.specs.Services.{Service}
-use Rattle.definitions.specs.Spans.{most_ranges, segment_room}
 use Rattle.definitions.specs.Ranges.{Range}
 use Rattle.definitions.specs.Lines.{has_line}
 use Rattle.definitions.specs.Fit.{HasLine, Ordered}
-use Rattle.definitions.specs.Splits.{cut, GoodRun, GoodRuns, Split, end_of, last_run}
+use Rattle.definitions.specs.Splits.{cut, GoodRun, GoodRuns, Split, last_run}
 use Rattle.definitions.specs.Segments.{segments, running_after}
 use Rattle.definitions.specs.Results.{Segment, segment_of, segments_of}
 use Rattle.splits.specs.Runs.{FrontOf, run_with, good-run, good_at}
 use Rattle.splits.specs.Cutting.{cut-whole, last_run_joins, last_run_begins, last_run_take}
-use Rattle.splits.specs.Greedy.{Decides, cut_split, cut_ahead, cut_fewest, cut_closes, ok_closing, last_run_good}
-use Rattle.splits.specs.Backward.{cut_back}
+use Rattle.splits.specs.Greedy.{Decides, cut_split, cut_closes, ok_closing, last_run_good}
 use Rattle.splits.specs.OrderedRanges.{first_time_of, last_time_of, ordered-left, last-range}
-use Rattle.splits.specs.RunTimes.{in_span, split_run_good, split_ranges, split_ahead_times}
+use Rattle.splits.specs.RunTimes.{in_span, split_run_good, split_ranges}
 
 -- ---- the times given
 
@@ -112,18 +106,18 @@ running-front k rs h b =
 
 -- ---- two by two
 
-pairs : List Range → List (List Range)
+pub pairs : List Range → List (List Range)
 pairs [] = []
 pairs (r ∷ []) = (r ∷ []) ∷ []
 pairs (r ∷ s ∷ rs) = (r ∷ s ∷ []) ∷ pairs rs
 
-pairs-whole : (rs : List Range) → flatten (pairs rs) ≡ rs
+pub pairs-whole : (rs : List Range) → flatten (pairs rs) ≡ rs
 unfolding pairs flatten
 pairs-whole [] = refl
 pairs-whole (r ∷ []) = refl
 pairs-whole (r ∷ s ∷ rs) = ap (λ l. r ∷ s ∷ l) (pairs-whole rs)
 
-pairs-count : (rs : List Range) → 2 * length (pairs rs) ≤ length rs + 1
+pub pairs-count : (rs : List Range) → 2 * length (pairs rs) ≤ length rs + 1
 unfolding pairs
 pairs-count [] = omega arith
 pairs-count (r ∷ []) = omega arith
@@ -156,22 +150,6 @@ module _ (decides : Decides Ordered HasLine has_line) where
       → filter (in_span (first_time_of (get_or (segments rs) j [])) (last_time_of (get_or (segments rs) j []))) rs ≡ get_or (segments rs) j []
   segments_ranges rs o j h = split_ranges (segments_split rs o) j h o
 
-  pub segments_ahead : (rs : List Range) (runs : List (List Range)) → Ordered rs → Split HasLine rs runs → (j : ℕ) → end_of j runs ≤ end_of j (segments rs)
-  unfolding segments
-  segments_ahead rs runs o s j = cut_ahead decides rs runs o s j
-
-  pub segments_ahead_times : (rs : List Range) (runs : List (List Range)) → Ordered rs → Split HasLine rs runs
-      → (j : ℕ) → j < length runs → j < length (segments rs) → last_time_of (get_or runs j []) ≤ last_time_of (get_or (segments rs) j [])
-  segments_ahead_times rs runs o s j h k = split_ahead_times o s (segments_split rs o) j (segments_ahead rs runs o s (suc j)) h k
-
-  pub segments_fewest : (rs : List Range) (runs : List (List Range)) → Ordered rs → Split HasLine rs runs → length (segments rs) ≤ length runs
-  unfolding segments
-  segments_fewest rs runs o s = cut_fewest decides rs runs o s
-
-  pub segments_back : (rs : List Range) → Ordered rs → length (cut (λ run. has_line (reverse run)) (reverse rs)) ≡ length (segments rs)
-  unfolding segments
-  segments_back rs o = cut_back decides rs o
-
   pub running_good : (k : ℕ) (rs : List Range) → Ordered rs → 0 < k → k ≤ length rs → GoodRun HasLine (running_after k rs)
   unfolding running_after segments
   running_good k rs o h b = last_run_good decides (take k rs) (omega (arith, length-take-le k rs b)) (ordered-left (take k rs) (drop k rs) (subst Ordered (sym (take-append-drop k rs)) o))
@@ -187,14 +165,8 @@ module _ (decides : Decides Ordered HasLine has_line) where
 
   -- ---- how many
   module _ (two : (r s : Range) → Ordered (r ∷ s ∷ []) → HasLine (r ∷ s ∷ [])) where
-    pairs_good : (rs : List Range) → Ordered rs → GoodRuns HasLine (pairs rs)
+    pub pairs_good : (rs : List Range) → Ordered rs → GoodRuns HasLine (pairs rs)
     unfolding pairs
     pairs_good [] o = tt
     pairs_good (r ∷ []) o = (decides.one r o, tt)
     pairs_good (r ∷ s ∷ rs) o = (two r s (ordered-left (r ∷ s ∷ []) rs o), pairs_good rs o.2.2)
-
-    pub segments_count : (rs : List Range) → Ordered rs → 2 * length (segments rs) ≤ length rs + 1
-    segments_count rs o = omega (arith, segments_fewest rs (pairs rs) o (record { whole = pairs-whole rs; each = pairs_good rs o }), pairs-count rs)
-
-    pub segments_room : (rs : List Range) → Ordered rs → length rs ≤ most_ranges → length (segments rs) ≤ segment_room
-    segments_room rs o h = omega (arith, segments_count rs o)

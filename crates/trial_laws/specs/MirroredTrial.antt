@@ -1,34 +1,32 @@
 -- The trial of the mirror image: a call on the image is refused exactly where the call is, and with the same number. Nothing is asked of the lists or of the service.
 --
---     ranges-mirrored         the ranges of the image are the images of the ranges, also of lists that differ in length
 --     longer-mirrored         the image of lists with a range more is the image of the lists with the image of the range more
 --     service-mirrored        the image of a service has a value outside its span exactly if the service has
---     trial_mirrored          the trial that all calls share gives the same answer
---     segment_trial_mirrored, latest_trial_mirrored, corner_trial_mirrored   so do the rows of Segment, of Latest and of Corners
 --
 -- A low that is outside has a high that is outside for its image; both have the number 4, so it does not matter that the one is tried before the other.
+-- Further laws stand in proofs/MirroredTrial.antt.
 -- Assumes nothing.
-use Rattle.std.specs.Prelude.{◌≡◌, refl, Bool, true, false, not, ◌&&◌, ◌||◌, List, [], ◌∷◌, ◌++◌, map, ℕ, zero, suc, eqb, ltb, length, ℤ, pos, neg_ℤ}
+use Rattle.std.specs.Prelude.{◌≡◌, refl, Bool, true, false, not, ◌&&◌, ◌||◌, List, [], ◌∷◌, ◌++◌, map, ℕ, zero, suc, eqb, length, ℤ, pos, neg_ℤ}
 use Rattle.std.proofs.Common.{sym, ap, ap₂, ◌∙◌}
 use Rattle.std.proofs.Math.Bool.{and_comm, or_comm}
 use Rattle.std.proofs.lemmas.List.{map-append, length-map}
 use Rattle.std.proofs.Math.IntN.{neg_ℤ-neg_ℤ}
 use Rattle.std.specs.Int.Signed.{lt_z}
 use Rattle.integers.specs.OrderLaws.{lt_z-neg}
-use Rattle.definitions.specs.Spans.{most_value, most_ranges, segment_room, corner_room}
+use Rattle.definitions.specs.Spans.{most_value}
 use Rattle.definitions.specs.Services.{Service}
-use Rattle.definitions.specs.Times.{Time, none, at}
-use Rattle.definitions.specs.Ranges.{Range, Lists, zip_ranges, ranges_of}
+use Rattle.definitions.specs.Times.{Time, at}
+use Rattle.definitions.specs.Ranges.{Range, Lists, zip_ranges}
 use Rattle.definitions.specs.Answers.{Row, ◌if◌, ◌>>=◌, firstRow}
-use Rattle.definitions.specs.Trial.{outside, bad_direction, bad_step, not_above, range_rows, ranges_rows, too_short, differ, segment_rows, latest_rows, corner_rows}
+use Rattle.definitions.specs.Trial.{outside, bad_direction, bad_step, not_above, range_rows, ranges_rows, differ}
 use Rattle.definitions.specs.Previews.{longer}
 use Rattle.definitions.specs.Mirrors.{mirrored_range, mirrored_lists, opposite, mirrored_service}
-use Rattle.trial_laws.specs.Rows.{first_row-append, first_row-rest}
-use Rattle.trial_laws.specs.ListTrial.{trial_rows, bad_service, segment_trial, latest_trial, count_rows, corner_trial}
+use Rattle.trial_laws.specs.Rows.{first_row-append}
+use Rattle.trial_laws.specs.ListTrial.{bad_service}
 
 -- ---- lists
 
-zip-mirrored : (ts : List ℕ) (us vs : List ℤ) → zip_ranges ts (map neg_ℤ vs) (map neg_ℤ us) ≡ map mirrored_range (zip_ranges ts us vs)
+pub zip-mirrored : (ts : List ℕ) (us vs : List ℤ) → zip_ranges ts (map neg_ℤ vs) (map neg_ℤ us) ≡ map mirrored_range (zip_ranges ts us vs)
 unfolding zip_ranges
 zip-mirrored [] us vs = refl
 zip-mirrored (t ∷ ts) [] [] = refl
@@ -36,15 +34,11 @@ zip-mirrored (t ∷ ts) [] (v ∷ vs) = refl
 zip-mirrored (t ∷ ts) (u ∷ us) [] = refl
 zip-mirrored (t ∷ ts) (u ∷ us) (v ∷ vs) = ap (λ rs. record { time = t; low = neg_ℤ v; high = neg_ℤ u } ∷ rs) (zip-mirrored ts us vs)
 
-pub ranges-mirrored : (ls : Lists) → ranges_of (mirrored_lists ls) ≡ map mirrored_range (ranges_of ls)
-unfolding ranges_of
-ranges-mirrored ls = zip-mirrored ls.times ls.lows ls.highs
-
 pub longer-mirrored : (ls : Lists) (r : Range) → longer (mirrored_lists ls) (mirrored_range r) ≡ mirrored_lists (longer ls r)
 unfolding longer
 longer-mirrored ls r = ap₂ (λ us vs. record { times = ls.times ++ (r.time ∷ []); lows = us; highs = vs }) (sym (map-append neg_ℤ ls.highs (r.high ∷ []))) (sym (map-append neg_ℤ ls.lows (r.low ∷ [])))
 
-differ-mirrored : (ls : Lists) → differ (mirrored_lists ls) ≡ differ ls
+pub differ-mirrored : (ls : Lists) → differ (mirrored_lists ls) ≡ differ ls
 unfolding differ
 differ-mirrored ls =
     let n = length ls.times in
@@ -85,35 +79,10 @@ range_rows-mirrored before r =
     (λ i. firstRow (4 if outside-mirrored r.high i ∷ 4 if outside-mirrored r.low i ∷ 5 if lt_z-neg r.high r.low i ∷ last))
     ∙ swap-rows 4 (outside r.high) (outside r.low) (5 if lt_z r.high r.low ∷ last)
 
-ranges_rows-mirrored : (before : Time) (rs : List Range) → firstRow (ranges_rows before (map mirrored_range rs)) ≡ firstRow (ranges_rows before rs)
+pub ranges_rows-mirrored : (before : Time) (rs : List Range) → firstRow (ranges_rows before (map mirrored_range rs)) ≡ firstRow (ranges_rows before rs)
 unfolding ranges_rows
 ranges_rows-mirrored before [] = refl
 ranges_rows-mirrored before (r ∷ rs) =
     first_row-append (range_rows before (mirrored_range r)) (ranges_rows (at r.time) (map mirrored_range rs))
     ∙ ap₂ (λ x y. x >>= λ ok. y) (range_rows-mirrored before r) (ranges_rows-mirrored (at r.time) rs)
     ∙ sym (first_row-append (range_rows before r) (ranges_rows (at r.time) rs))
-
-pub trial_mirrored : (short bad : Bool) (ls : Lists) → firstRow (trial_rows short bad (mirrored_lists ls)) ≡ firstRow (trial_rows short bad ls)
-unfolding trial_rows
-trial_mirrored short bad ls =
-    let first = 8 if short ∷ 10 if differ ls ∷ 7 if ltb most_ranges (length ls.times) ∷ 4 if bad ∷ [] in
-    ap₂ (λ d rs. firstRow (8 if short ∷ 10 if d ∷ 7 if ltb most_ranges (length ls.times) ∷ 4 if bad ∷ ranges_rows none rs)) (differ-mirrored ls) (ranges-mirrored ls)
-    ∙ first_row-rest first (ranges_rows none (map mirrored_range (ranges_of ls))) (ranges_rows none (ranges_of ls)) (ranges_rows-mirrored none (ranges_of ls))
-
-service_trial_mirrored : (v : Service) (ls : Lists) {short short' : Bool} → short' ≡ short → firstRow (trial_rows short' (bad_service (mirrored_service v)) (mirrored_lists ls)) ≡ firstRow (trial_rows short (bad_service v) ls)
-service_trial_mirrored v ls {short} {short'} alike =
-    trial_mirrored short' (bad_service (mirrored_service v)) ls ∙ ap₂ (λ short bad. firstRow (trial_rows short bad ls)) alike (service-mirrored v)
-
--- the two calls may be lent slices of other lengths, as long as both have room or neither has
-module _ (ls : Lists) (lengths lengths' : List ℕ) where
-  pub segment_trial_mirrored : (v : Service) → too_short segment_room lengths' ≡ too_short segment_room lengths → firstRow (segment_rows lengths' (mirrored_service v) (mirrored_lists ls)) ≡ firstRow (segment_rows lengths v ls)
-  segment_trial_mirrored v alike = segment_trial lengths' (mirrored_service v) (mirrored_lists ls) ∙ service_trial_mirrored v ls alike ∙ sym (segment_trial lengths v ls)
-
-  pub latest_trial_mirrored : (v : Service) → too_short corner_room lengths' ≡ too_short corner_room lengths → firstRow (latest_rows lengths' (mirrored_service v) (mirrored_lists ls)) ≡ firstRow (latest_rows lengths v ls)
-  latest_trial_mirrored v alike = latest_trial lengths' (mirrored_service v) (mirrored_lists ls) ∙ service_trial_mirrored v ls alike ∙ sym (latest_trial lengths v ls)
-
-  pub corner_trial_mirrored : (k : ℕ) → too_short corner_room lengths' ≡ too_short corner_room lengths → firstRow (corner_rows lengths' k (mirrored_lists ls)) ≡ firstRow (corner_rows lengths k ls)
-  corner_trial_mirrored k alike =
-      corner_trial lengths' k (mirrored_lists ls)
-      ∙ ap (λ x. x >>= λ ok. firstRow (count_rows k ls)) (trial_mirrored (too_short corner_room lengths') false ls ∙ ap (λ short. firstRow (trial_rows short false ls)) alike)
-      ∙ sym (corner_trial lengths k ls)

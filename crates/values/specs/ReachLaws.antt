@@ -32,8 +32,10 @@ use Rattle.integers.specs.Bounds.{Within, in_lit, in_up, in_neg, in_nonneg}
 use Rattle.integers.specs.Machine.{Env, upto, ◌▹◌, end, machine_value!, reads, negated-is}
 use Rattle.integers.specs.Rounding.{ceil_div}
 use Rattle.integers.specs.Least.{IsLeast, nowhere, least_at, least-unique, least_iff, first_by_ends}
-use Rattle.integers.specs.Multiples.{from_turn, to_turn, first_multiple, to_turns, multiple_turn, turns_least}
-use Rattle.integers.specs.Crossing.{crossing, crossing_after, reach_after, reach_too_late, reach_never}
+use Rattle.integers.specs.Multiples.{from_turn, to_turn, first_multiple, to_turns}
+use Rattle.integers.proofs.Multiples.{multiple_turn, turns_least}
+use Rattle.integers.specs.Crossing.{crossing, reach_never}
+use Rattle.integers.proofs.Crossing.{crossing_after, reach_after, reach_too_late}
 use Rattle.definitions.specs.Spans.{most_time, most_step}
 use Rattle.definitions.specs.Times.{Time, none, at}
 use Rattle.definitions.specs.Services.{Direction, falling, direction_of, Service}
@@ -41,7 +43,8 @@ use Rattle.definitions.specs.Lines.{Line, reading}
 use Rattle.definitions.specs.Corners.{reduced}
 use Rattle.definitions.specs.Fit.{Reaches}
 use Rattle.definitions.specs.Outlook.{has_reached, lines}
-use Rattle.lines.specs.OutlookTimes.{reach_time, rises, paced, paced-reading, paced-reaches, reach_time_least}
+use Rattle.lines.specs.OutlookTimes.{reach_time, rises, paced, paced-reading, paced-reaches}
+use Rattle.lines.proofs.OutlookTimes.{reach_time_least}
 use Rattle.lines.specs.RunOutlook.{leading, trailing}
 use Rattle.trial_laws.specs.Accepted.{GoodStep}
 use Rattle.values.specs.declared.Line.{Line as LineValue}

@@ -22,7 +22,7 @@ use Rattle.definitions.specs.Results.{Segment, segment_of, segments_of, time_num
 use Rattle.splits.specs.OrderedRanges.{ordered_at}
 use Rattle.splits.specs.Segments.{segments_of-at}
 use Rattle.lines.specs.HasLine.{no-ranges}
-use Rattle.lines.specs.RunOutlook.{outlook-means}
+use Rattle.lines.proofs.RunOutlook.{outlook-means}
 use Rattle.lines.specs.Theorems.{segments_split}
 use Rattle.trial_laws.specs.Accepted.{GoodService}
 use Rattle.values.specs.Rows.{time_from, outlook_from, segment_from}

@@ -5,7 +5,7 @@ use mir.Syntax.{w32}
 use Rattle.integers.specs.Bounds.{fits, in_neg}
 use Rattle.integers.specs.Machine.{negated_in, negated-is}
 use Rattle.lines.specs.OutlookTimes.{reach_time, rises}
-use Rattle.lines.specs.Mirrored.{reach_time-falling}
+use Rattle.lines.proofs.Mirrored.{reach_time-falling}
 use Rattle.values.specs.Meanings.{line_of, service_of}
 use Rattle.values.specs.Signed.{read_back}
 use Rattle.values.specs.ReachLaws.{is-falling}

@@ -1,0 +1,16 @@
+pub mod Candidates
+pub mod Closing
+pub mod CornersOfChains
+pub mod Cut
+pub mod Hull
+pub mod Listing
+pub mod Mirror
+pub mod PopEnd
+pub mod Results
+pub mod Run
+pub mod Size
+pub mod Spot
+pub mod Start
+pub mod State
+pub mod Step
+pub mod TwoEnds

@@ -1,0 +1,3 @@
+pub mod Crossing
+pub mod Multiples
+pub mod Rounding

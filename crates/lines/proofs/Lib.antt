@@ -1,0 +1,11 @@
+pub mod BackwardTimes
+pub mod Diagonal
+pub mod Levels
+pub mod Mirrored
+pub mod MirroredCorners
+pub mod MirroredFit
+pub mod MirroredOutlook
+pub mod OneRange
+pub mod OutlookTimes
+pub mod RunOutlook
+pub mod Theorems
