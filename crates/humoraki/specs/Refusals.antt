@@ -26,7 +26,7 @@ use Rattle.trial_laws.specs.CallLaws.{call-refused, call-accepted}
 use Rattle.trial_laws.specs.LongerLists.{effect_on, preview_by_rows}
 use Rattle.trace_laws.specs.FileRows.{read_rows, file_trace}
 use Rattle.trace_laws.specs.RoundTrip.{trace_of}
-use Rattle.trace_laws.specs.TraceLaws.{read-by-rows}
+use Rattle.trace_laws.proofs.TraceLaws.{read-by-rows}
 use Rattle.drift.specs.Columns.{lengths}
 use Rattle.drift.specs.CornersPromise.{three_lengths}
 use Rattle.panel.specs.Promises.{lengths_of}

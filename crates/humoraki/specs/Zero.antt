@@ -24,7 +24,7 @@ use Rattle.trial_laws.specs.Rows.{Numbered, Numbered-append, refused_not_accepte
 use Rattle.trial_laws.specs.CallLaws.{refused-is, bind-refused}
 use Rattle.trial_laws.specs.ListTrial.{count_rows, ranges-numbered}
 use Rattle.trial_laws.specs.LongerLists.{effect_on, preview_by_rows}
-use Rattle.trace_laws.specs.TraceLaws.{read_number}
+use Rattle.trace_laws.proofs.TraceLaws.{read_number}
 use Rattle.trace.specs.Promises.{write_into}
 use Rattle.drift.specs.Columns.{lengths}
 use Rattle.drift.specs.CornersPromise.{three_lengths}

@@ -24,7 +24,7 @@ use Rattle.trial_laws.specs.Rows.{NoneHolds, first_row-accepted}
 use Rattle.trial_laws.specs.RangeLists.{lists_of, ranges_of-lists, lists-alike}
 use Rattle.trace_laws.specs.Numbers.{in_span_lem}
 use Rattle.trace_laws.specs.ReadTried.{TraceTried, read-tried}
-use Rattle.trace_laws.specs.TraceLaws.{first-bytes}
+use Rattle.trace_laws.proofs.TraceLaws.{first-bytes}
 use Rattle.report_text.specs.Lines.{answer_text, lists_text}
 
 times_long : (rs : List Range) → length (lists_of rs).times ≡ length rs

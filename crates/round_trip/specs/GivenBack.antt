@@ -21,7 +21,7 @@ use Rattle.definitions.specs.Trial.{too_short}
 use Rattle.definitions.specs.TraceFile.{Trace, write_file}
 use Rattle.trial_laws.specs.RangeLists.{same_length}
 use Rattle.trace_laws.specs.FileRows.{reading_file}
-use Rattle.trace_laws.specs.ReadWrite.{written_no_readings}
+use Rattle.trace_laws.proofs.ReadWrite.{written_no_readings}
 use Rattle.trace_laws.specs.RoundTrip.{trace_of, written}
 use Rattle.trace_laws.specs.TraceLaws.{read-tried}
 use Rattle.trace.specs.declared.ReadAnswer as R

@@ -25,7 +25,7 @@ use Rattle.trial_laws.specs.CallLaws.{then-then, bind-refused, accepted-is}
 use Rattle.trace_laws.specs.Numbers.{Bytes, Words}
 use Rattle.trace_laws.specs.RoundTrip.{trace_of}
 use Rattle.trace_laws.specs.FileRows.{reading_file}
-use Rattle.trace_laws.specs.TraceLaws as Laws
+use Rattle.trace_laws.proofs.TraceLaws as Laws
 use Rattle.trace_laws.specs.TraceLaws.{lists_back as given_lists_back}
 use Rattle.trace.specs.declared.TraceRecord.{TraceRecord}
 use Rattle.trace.specs.declared.ReadAnswer as R
