@@ -1,4 +1,6 @@
 // The report of a trace file: what is printed for it, byte by byte, into a lent slice.
+#![tactic(auto)]
+
 mod report_lines; // report_lines.rt: the parts of a report's lines, and its lines
 mod trace_text; // trace_text.rt: the report of a trace that was read
 

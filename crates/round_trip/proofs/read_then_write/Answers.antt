@@ -9,7 +9,7 @@ use Rattle.trace.specs.BothWays.{read_in}
 use Rattle.round_trip.specs.PromiseLaws.{promise-not_read, promise_read}
 use Rattle.round_trip.proofs.read_then_write.Goals as goal
 
--- ---- the needs
+-- ---- the goals
 
 pub slice_bounds-write-end : goal.slice_bounds-write-end
 slice_bounds-write-end c = (read_in c.in-Accepted.ensures).times_in

@@ -21,7 +21,7 @@ Promise c w =
 promised : (c : After-write-written) → Promise c c.write-written.result
 promised c = rw (to_z-of_z {w = w32} c.ranges.level) at c.write-written.ensures
 
--- ---- the needs
+-- ---- the goals
 
 pub slice_bounds-read-end : goal.slice_bounds-read-end
 slice_bounds-read-end c =

@@ -1,6 +1,6 @@
 -- `report_text::report_lines::put_heading` meets its contract: four words, each with its number, and the line feed. Assumes nothing.
 -- ---- the pieces
-use Prim.Native.Nat.{ℕ, ◌+◌, ◌≤◌}
+use Prim.Native.Nat.{ℕ, ◌≤◌}
 use mathlib.Core.Path.{◌≡◌, ◌∙◌, subst}
 use mathlib.Core.List.{List, ◌++◌}
 use native.Mathlib.Omega.{arith}
@@ -8,11 +8,10 @@ use lib.ListN.{length}
 use mir.Syntax.{w32, w64}
 use mir.Val.{SFits, to_z, of_z}
 use mir.Facts.{to_z-of_z}
-use borrow.Author.Rules.{rules}
 use Rattle.integers.specs.Machine.{◌▸◌, end, no_overflow!, reads}
 use Rattle.definitions.specs.Report.{ascii, labelled, decimal, signed_decimal, trace_line}
 use Rattle.text.specs.Put.{Room, Put}
-use Rattle.text.specs.PutLaws.{put_length, put_then, room-front, room_then}
+use Rattle.text.specs.PutLaws.{put_then, room-front, room_then}
 use Rattle.report_text.specs.Short.{heading-short}
 use Rattle.report_text.proofs.report_lines.put_heading.Goals.{After-put_count-next, After-put_count-next-2, After-put_count-next-3, After-put_value-next, After-put_word, Start}
 use Rattle.report_text.proofs.report_lines.put_heading.Goals as goal
@@ -76,9 +75,6 @@ whole c = put_then (four (goal.at.After-put_word c).After-put_count-next-3) c.pu
 
 pub put_count-next-requires : goal.put_count-next-requires
 put_count-next-requires c = let s = (goal.at.put_count-next-requires c).Start in room-front c.args.at (address s) (level s) c.args.text.now (room-two s)
-
-pub overflow_cast-level : goal.overflow_cast-level
-overflow_cast-level c = wide (goal.at.overflow_cast-level c).Start
 
 pub put_value-next-requires : goal.put_value-next-requires
 put_value-next-requires c = let s = (goal.at.put_value-next-requires c).Start in rw (level_is s) (room_then c.put_count-next.ensures (level s) (room-two s))

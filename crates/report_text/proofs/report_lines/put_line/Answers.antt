@@ -4,14 +4,14 @@ use Prim.Native.Nat.{ℕ}
 use mathlib.Core.List.{List, ◌++◌}
 use native.Mathlib.Omega.{arith}
 use mir.Facts.{to_z-of_z}
-use borrow.Author.Rules.{rules, sfits_of}
+use borrow.Author.Rules.{rules}
 use Rattle.definitions.specs.Report.{labelled, signed_decimal}
 use Rattle.text.specs.Put.{Room, Put}
-use Rattle.text.specs.PutLaws.{put_length, put_then, room-front, room_then}
+use Rattle.text.specs.PutLaws.{put_then, room-front, room_then}
 use Rattle.values.specs.Meanings.{line_of}
 use Rattle.report_text.specs.Lines.{line_bytes}
 use Rattle.report_text.specs.Short.{LineFits, line-short}
-use Rattle.report_text.proofs.report_lines.put_line.Goals.{After-put_value, After-put_value-next, After-put_value-next-2, After-shared_slice_known-1, After-struct_told-1, Start}
+use Rattle.report_text.proofs.report_lines.put_line.Goals.{After-put_value, After-put_value-next, After-put_value-next-2, Start}
 use Rattle.report_text.proofs.report_lines.put_line.Goals as goal
 
 abbrev word-p : Start → List ℕ
@@ -25,38 +25,38 @@ then-d s = labelled " " (signed_decimal s.args.l.d)
 
 -- ---- room for them
 
-line-fits : (c : After-struct_told-1) → LineFits (line_of c.args.l)
-line-fits c = let known = c.struct_told-1.given in record { p_fits = sfits_of known.0.1; q_fits = sfits_of known.1.0.1; d_fits = sfits_of known.1.1.0.1 }
+line-fits : (c : Start) → LineFits (line_of c.args.l)
+line-fits c = record { p_fits = search rules; q_fits = search rules; d_fits = search rules }
 
-room : (c : After-struct_told-1) → let s = (goal.at.After-struct_told-1 c).Start in Room c.args.at (word-p s ++ then-q s ++ then-d s) c.args.text.now
+room : (c : Start) → Room c.args.at (word-p c ++ then-q c ++ then-d c) c.args.text.now
 unfolding line_bytes
-room c = let s = (goal.at.After-struct_told-1 c).Start in omega (arith, c.requires.1, line-short c.args.word.now c.requires.0 (line_of c.args.l) (line-fits c))
+room c = omega (arith, c.requires.1, line-short c.args.word.now c.requires.0 (line_of c.args.l) (line-fits c))
 
-room-two : (c : After-struct_told-1) → let s = (goal.at.After-struct_told-1 c).Start in Room c.args.at (word-p s ++ then-q s) c.args.text.now
-room-two c = let s = (goal.at.After-struct_told-1 c).Start in room-front c.args.at (word-p s ++ then-q s) (then-d s) c.args.text.now (room c)
+room-two : (c : Start) → Room c.args.at (word-p c ++ then-q c) c.args.text.now
+room-two c = room-front c.args.at (word-p c ++ then-q c) (then-d c) c.args.text.now (room c)
 
 -- ---- what is put so far
 
 one : (c : After-put_value-next) → let s = (goal.at.After-put_value-next c).Start in Put c.args.at (word-p s) c.args.text.now c.put_value-next.result c.put_value-next.new.text
-one c = rw (to_z-of_z (line-fits (goal.at.After-put_value-next c).After-struct_told-1).p_fits) at c.put_value-next.ensures
+one c = rw (to_z-of_z (line-fits (goal.at.After-put_value-next c).Start).p_fits) at c.put_value-next.ensures
 
 two : (c : After-put_value-next-2) → let s = (goal.at.After-put_value-next-2 c).Start in Put c.args.at (word-p s ++ then-q s) c.args.text.now c.put_value-next-2.result c.put_value-next-2.new.text
-two c = put_then (one (goal.at.After-put_value-next-2 c).After-put_value-next) (rw (to_z-of_z (line-fits (goal.at.After-put_value-next-2 c).After-struct_told-1).q_fits) at c.put_value-next-2.ensures)
+two c = put_then (one (goal.at.After-put_value-next-2 c).After-put_value-next) (rw (to_z-of_z (line-fits (goal.at.After-put_value-next-2 c).Start).q_fits) at c.put_value-next-2.ensures)
 
 whole : (c : After-put_value) → Put c.args.at (line_bytes c.args.word.now (line_of c.args.l)) c.args.text.now c.put_value.result c.put_value.new.text
 unfolding line_bytes
-whole c = put_then (two (goal.at.After-put_value c).After-put_value-next-2) (rw (to_z-of_z (line-fits (goal.at.After-put_value c).After-struct_told-1).d_fits) at c.put_value.ensures)
+whole c = put_then (two (goal.at.After-put_value c).After-put_value-next-2) (rw (to_z-of_z (line-fits (goal.at.After-put_value c).Start).d_fits) at c.put_value.ensures)
 
 -- ---- the goals
 
 pub put_value-next-requires : goal.put_value-next-requires
-put_value-next-requires c = let s = (goal.at.put_value-next-requires c).Start in rw (to_z-of_z (line-fits c).p_fits) (room-front c.args.at (word-p s) (then-q s) c.args.text.now (room-two c))
+put_value-next-requires c = let s = (goal.at.put_value-next-requires c).Start in rw (to_z-of_z (line-fits s).p_fits) (room-front c.args.at (word-p s) (then-q s) c.args.text.now (room-two s))
 
 pub put_value-next-requires-2 : goal.put_value-next-requires-2
-put_value-next-requires-2 c = let s = (goal.at.put_value-next-requires-2 c).Start in let t = (goal.at.put_value-next-requires-2 c).After-struct_told-1 in rw (to_z-of_z (line-fits t).q_fits) (room_then (one (goal.at.put_value-next-requires-2 c).After-put_value-next) (then-q s) (room-two t))
+put_value-next-requires-2 c = let s = (goal.at.put_value-next-requires-2 c).Start in rw (to_z-of_z (line-fits s).q_fits) (room_then (one (goal.at.put_value-next-requires-2 c).After-put_value-next) (then-q s) (room-two s))
 
 pub put_value-requires : goal.put_value-requires
-put_value-requires c = let s = (goal.at.put_value-requires c).Start in let t = (goal.at.put_value-requires c).After-struct_told-1 in rw (to_z-of_z (line-fits t).d_fits) (room_then (two (goal.at.put_value-requires c).After-put_value-next-2) (then-d s) (room t))
+put_value-requires c = let s = (goal.at.put_value-requires c).Start in rw (to_z-of_z (line-fits s).d_fits) (room_then (two (goal.at.put_value-requires c).After-put_value-next-2) (then-d s) (room s))
 
 pub returns : goal.returns
-returns c = let done = whole (goal.at.returns c).After-put_value in (done, omega (arith, done.next_is, line-short c.args.word.now c.requires.0 (line_of c.args.l) (line-fits (goal.at.returns c).After-struct_told-1)))
+returns c = let done = whole (goal.at.returns c).After-put_value in (done, omega (arith, done.next_is, line-short c.args.word.now c.requires.0 (line_of c.args.l) (line-fits (goal.at.returns c).Start)))

@@ -2,12 +2,11 @@
 use Prim.Native.Nat.{ℕ}
 use mathlib.Core.List.{List, ◌++◌}
 use native.Mathlib.Omega.{arith}
-use borrow.Author.Rules.{rules}
 use Rattle.definitions.specs.Report.{ascii, labelled, decimal, refused_line}
 use Rattle.text.specs.Put.{Room, Put}
-use Rattle.text.specs.PutLaws.{put_length, put_then, room-front, room_then}
+use Rattle.text.specs.PutLaws.{put_then, room-front, room_then}
 use Rattle.report_text.specs.Short.{refused-short}
-use Rattle.report_text.proofs.report_lines.put_refused.Goals.{After-put_count-arg-1, After-put_word, Start}
+use Rattle.report_text.proofs.report_lines.put_refused.Goals.{After-put_word, Start}
 use Rattle.report_text.proofs.report_lines.put_refused.Goals as goal
 
 abbrev number : Start → List ℕ

@@ -3,12 +3,11 @@
 use Prim.Native.Nat.{ℕ}
 use mathlib.Core.List.{List, ◌++◌}
 use native.Mathlib.Omega.{arith}
-use borrow.Author.Rules.{rules}
 use Rattle.definitions.specs.Report.{span_text, outlook_text, segment_line}
 use Rattle.text.specs.Put.{Put}
-use Rattle.text.specs.PutLaws.{put_length, put_then}
+use Rattle.text.specs.PutLaws.{put_then}
 use Rattle.values.specs.Meanings.{outlook_of, segment_of}
-use Rattle.report_text.proofs.report_lines.put_segment.Goals.{After-put_outlook-next, After-put_word, After-slice_known-1, Start}
+use Rattle.report_text.proofs.report_lines.put_segment.Goals.{After-put_outlook-next, After-put_word, Start}
 use Rattle.report_text.proofs.report_lines.put_segment.Goals as goal
 
 abbrev span : Start → List ℕ
@@ -22,20 +21,11 @@ outlook s = outlook_text (outlook_of s.args.s.outlook)
 two : (c : After-put_outlook-next) → let s = (goal.at.After-put_outlook-next c).Start in Put c.args.at (span s ++ outlook s) c.args.text.now c.put_outlook-next.result c.put_outlook-next.new.text
 two c = put_then c.put_span-next.ensures.0 c.put_outlook-next.ensures.0
 
-whole : (c : After-put_word) → let s = (goal.at.After-put_word c).After-slice_known-1 in Put c.args.at (segment_line c.args.place (segment_of c.args.s)) c.args.text.now c.put_word.result c.put_word.new.text
+whole : (c : After-put_word) → Put c.args.at (segment_line c.args.place (segment_of c.args.s)) c.args.text.now c.put_word.result c.put_word.new.text
 unfolding segment_line segment_of
 whole c = put_then (two (goal.at.After-put_word c).After-put_outlook-next) c.put_word.ensures
 
 -- ---- the goals
-
-pub put_span-next-requires : goal.put_span-next-requires
-put_span-next-requires c = omega (arith, c.requires)
-
-pub put_outlook-next-requires : goal.put_outlook-next-requires
-put_outlook-next-requires c = let one = c.put_span-next.ensures in omega (arith, c.requires, one.1, put_length one.0)
-
-pub put_word-requires : goal.put_word-requires
-put_word-requires c = omega (arith, c.requires, c.put_span-next.ensures.1, c.put_outlook-next.ensures.1, put_length (two (goal.at.put_word-requires c).After-put_outlook-next))
 
 pub returns : goal.returns
 returns c = (whole (goal.at.returns c).After-put_word, omega (arith, c.put_span-next.ensures.1, c.put_outlook-next.ensures.1, c.put_word.ensures.next_is))

