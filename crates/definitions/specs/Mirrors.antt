@@ -39,7 +39,7 @@ mirrored_service v = record { level = neg_ℤ v.level; direction = opposite v.di
 
 unfoldable pub mirrored_outlook : Outlook → Outlook
 mirrored_outlook open_strip = open_strip
-mirrored_outlook (lines slow fast some all) = lines (mirrored_line fast) (mirrored_line slow) some all
+mirrored_outlook (lines slow fast at_some at_all) = lines (mirrored_line fast) (mirrored_line slow) at_some at_all
 
 unfoldable pub mirrored_segment : Segment → Segment
 mirrored_segment s = record { first_time = s.first_time; last_time = s.last_time; count = s.count; outlook = mirrored_outlook s.outlook }

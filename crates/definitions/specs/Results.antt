@@ -42,19 +42,19 @@ zeros = record { p = pos 0; q = pos 0; d = pos 0 }
 
 unfoldable pub slow_line : Outlook → Line
 slow_line open_strip = zeros
-slow_line (lines slow fast some all) = slow
+slow_line (lines slow fast at_some at_all) = slow
 
 unfoldable pub fast_line : Outlook → Line
 fast_line open_strip = zeros
-fast_line (lines slow fast some all) = fast
+fast_line (lines slow fast at_some at_all) = fast
 
 unfoldable pub some_number : Outlook → ℕ
 some_number open_strip = 0
-some_number (lines slow fast some all) = time_number some
+some_number (lines slow fast at_some at_all) = time_number at_some
 
 unfoldable pub all_number : Outlook → ℕ
 all_number open_strip = 0
-all_number (lines slow fast some all) = time_number all
+all_number (lines slow fast at_some at_all) = time_number at_all
 
 -- ---- the row of a segment, in the order of the slices
 

@@ -1,4 +1,6 @@
 // The terms of the scope (docs/SCOPE.md) as definitions, which stand in specs/, and the numbers that code has of it.
+#![tactic(auto)]
+
 pub mod entries; // entries.rt: an entry of a panel
 pub mod limits; // limits.rt: the spans and the rooms of slices
 
