@@ -23,7 +23,8 @@ use Rattle.trial_laws.specs.Accepted.{ProperRanges}
 use Rattle.panel_laws.specs.PanelRows.{try_add, accepts}
 use Rattle.panel_laws.specs.AddLaws.{IsPanel, held-added, on-added, known-added, stays-panel}
 use Rattle.panel_laws.specs.OwnRanges.{proper-added}
-use Rattle.panel_laws.specs.JoiningHeads.{joined, joined_try, joined-added, joined-other}
+use Rattle.panel_laws.specs.JoiningHeads.{joined, joined-other}
+use Rattle.panel_laws.proofs.JoiningHeads.{joined_try, joined-added}
 use Rattle.panel.specs.declared.AddAnswer.{AddAnswer}
 use Rattle.panel.specs.declared.AddAnswer.TheVariants as AddCase
 use Rattle.panel.specs.declared.HeadRangesAnswer.{HeadRangesAnswer}

@@ -18,7 +18,7 @@ use Rattle.definitions.specs.Panels.{Places, Panel, taken, on_panel, zip_taken, 
 use Rattle.definitions.specs.PanelCalls.{room_of, panel_rows, head_ranges_call}
 use Rattle.definitions.specs.declared.entries.Entry.{Entry}
 use Rattle.trial_laws.specs.Rows.{refusal-above, refusal-zero}
-use Rattle.panel_laws.specs.PlainLists.{held_plain}
+use Rattle.panel_laws.proofs.PlainLists.{held_plain}
 use Rattle.trial_laws.specs.ShortLists.{long-split, all-long}
 use Rattle.panel_laws.specs.PanelRows.{panel_trial, good-panel, total-room, panel-numbered, Roomy, roomy, first-lengths}
 use Rattle.panel.specs.Promises.{head_ranges_meaning, lengths_of, HeadRangesPromise}

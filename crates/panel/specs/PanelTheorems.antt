@@ -51,7 +51,9 @@ use Rattle.panel_laws.specs.PanelRows.{own_rows}
 use Rattle.panel_laws.specs.Strangers.{stranger_not}
 use Rattle.panel_laws.specs.AddLaws.{AllEmpty, none-held, nothing-on, IsPanel, Starts, starts-panel, held-added, counts-added, stays-panel}
 use Rattle.panel_laws.specs.HeldLaws as Held
-use Rattle.panel_laws.specs.JoiningHeads.{joined, joined-panel, joined-starts, joined-on, joined-held, joined_ranges}
+use Rattle.panel_laws.proofs.HeldLaws as HeldAbove
+use Rattle.panel_laws.specs.JoiningHeads.{joined, joined-starts}
+use Rattle.panel_laws.proofs.JoiningHeads.{joined-panel, joined-on, joined-held, joined_ranges}
 use Rattle.panel_laws.specs.TwoHeads.{two_heads, two-start, turn, Reached, reached, same_ones, ones_length, still_room, no_room}
 use Rattle.panel.specs.declared.AddAnswer.{AddAnswer}
 use Rattle.panel.specs.declared.HeadRangesAnswer.{HeadRangesAnswer}
@@ -93,7 +95,7 @@ module _ {start : Panel} {xs : List Taken} {s : Panel} (course : Course start xs
   pub course_sure : {t : Panel} {a : ℕ} {r : Range} {answer : AddAnswer} → Starts start → unknown a start.entries ≡ false → length (head_ranges a xs) < 32 → firstRow (range_rows (last_time none (head_ranges a xs)) r) ≡ accepted tt → AddPromise s a r answer t → add_meaning answer ≡ accepted tt
   course_sure {t} {a} {r} starts is_Known less passes promise =
       let own = Given.own_course a starts.empty course in
-      answer-add promise ∙ Held.sure_of_32 s a r (course_panel (starts-panel starts)) (known_course a course ∙ is_Known) (subst (λ n. n < 32) (sym (course_held a starts is_Known)) less) (ap (λ rs. firstRow (range_rows (last_time none rs) r)) own ∙ passes)
+      answer-add promise ∙ HeldAbove.sure_of_32 s a r (course_panel (starts-panel starts)) (known_course a course ∙ is_Known) (subst (λ n. n < 32) (sym (course_held a starts is_Known)) less) (ap (λ rs. firstRow (range_rows (last_time none rs) r)) own ∙ passes)
 
 -- ---- what Head ranges fills in
 
@@ -121,13 +123,13 @@ own-only empty empty' course course' same promise promise' e e' =
 
 module _ {s t : Panel} {a : ℕ} {r : Range} {answer : AddAnswer} (promise : AddPromise s a r answer t) where
   pub sure_of_32 : IsPanel s → unknown a s.entries ≡ false → held_by a s.entries < 32 → firstRow (own_rows s a r) ≡ accepted tt → add_meaning answer ≡ accepted tt
-  sure_of_32 h is_Known less passes = answer-add promise ∙ Held.sure_of_32 s a r h is_Known less passes
+  sure_of_32 h is_Known less passes = answer-add promise ∙ HeldAbove.sure_of_32 s a r h is_Known less passes
 
   pub common-decides : IsPanel s → unknown a s.entries ≡ false → 32 ≤ held_by a s.entries → firstRow (own_rows s a r) ≡ accepted tt → (add_meaning answer ≡ accepted tt) ↔ (common_taken s.entries < 2048)
   common-decides h is_Known more passes = along (answer-add promise) (Held.common-decides s a r h is_Known more passes)
 
   pub never_thirteen : held_by a s.entries < 32 → add_meaning answer ≡ refused 13 → ⊥
-  never_thirteen less e = Held.never-13 s a r less (sym (answer-add promise) ∙ e)
+  never_thirteen less e = HeldAbove.never-13 s a r less (sym (answer-add promise) ∙ e)
 
   pub address_twelve : IsPanel s → bad_address a ≡ true → add_meaning answer ≡ refused 12
   unfolding add_rows panel_rows

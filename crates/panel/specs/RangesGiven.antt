@@ -32,7 +32,8 @@ use Rattle.trial_laws.specs.ShortLists.{long-split, long-join}
 use Rattle.trial_laws.specs.RangeLists.{same_length, first_entries, lists_of, ranges_of-lists, lists-alike}
 use Rattle.trial_laws.specs.Accepted.{ProperRanges, GoodService, accepted-lists, segment-accepted}
 use Rattle.panel_laws.specs.AddLaws.{AllEmpty, nothing-on, IsPanel}
-use Rattle.panel_laws.specs.HeldLaws.{held-is, most-held}
+use Rattle.panel_laws.specs.HeldLaws.{most-held}
+use Rattle.panel_laws.proofs.HeldLaws.{held-is}
 use Rattle.panel.specs.declared.HeadRangesAnswer.{HeadRangesAnswer}
 use Rattle.panel.specs.Promises.{head_ranges_meaning, lengths_of, HeadRangesPromise}
 use Rattle.panel.specs.Refusals.{head_ranges_accepted}

@@ -1,16 +1,15 @@
 -- What holds of every panel: what heads hold, and which numbers calls give.
 --
---     held-is                 the held count of an entry is the number of its head's ranges: to count addresses is to count ranges
 --     all_held                all heads hold at most 4,096 ranges
 --     most-held               one head holds at most 2,080: its 32 places and all the common ones
---     sure_of_32, never-13    a head that holds less than 32 has its range accepted if the range's own rows pass; it is never refused with 13
 --     common-decides          a range of a head that holds 32 or more, whose own rows pass, is accepted exactly if a common place is left
 --     add_never_14, ranges_never_14   neither call gives 14
 --     outside-unknown         no entry has an address outside its span, so such an address gives 12
 --     twelve_first, fourteen_first   where these rows are the first to hold they give their number, whatever rows follow
 --
+-- Further laws stand in proofs/HeldLaws.antt.
 -- Assumes nothing.
-use Rattle.std.specs.Prelude.{ℕ, ◌+◌, ◌<◌, ◌≤◌, ◌≡◌, refl, ◌↔◌, Bool, true, false, not, ◌&&◌, ◌||◌, List, [], ◌∷◌, ◌++◌, T, leb, eqb, length, take}
+use Rattle.std.specs.Prelude.{ℕ, ◌+◌, ◌<◌, ◌≤◌, ◌≡◌, refl, ◌↔◌, Bool, true, false, not, ◌&&◌, ◌||◌, List, [], ◌∷◌, ◌++◌, T, leb, eqb, take}
 use Rattle.std.proofs.Common.{arith, sym, ap, ◌∙◌, subst, eqb-true, leb-false, le-leb}
 use Rattle.std.proofs.Math.Bool.{and-false}
 use Rattle.std.proofs.lemmas.Bool.{eqb-false, not-false, lt-leb}
@@ -20,13 +19,12 @@ use Rattle.definitions.specs.Spans.{panel_room}
 use Rattle.definitions.specs.Answers.{refused, accepted, Row, ◌if◌, firstRow}
 use Rattle.definitions.specs.Ranges.{Range}
 use Rattle.definitions.specs.Trial.{too_short, bad_address, range_rows}
-use Rattle.definitions.specs.Panels.{Panel, taken, on_panel, kept, head_ranges, total_held, common_taken, is_at, either, held_by, outside_address, occurrences, miscounted, not_panel, unknown, crowded}
+use Rattle.definitions.specs.Panels.{Panel, kept, total_held, common_taken, is_at, either, held_by, outside_address, occurrences, miscounted, not_panel, unknown, crowded}
 use Rattle.definitions.specs.PanelCalls.{panel_rows, add_rows}
 use Rattle.definitions.specs.declared.entries.Entry.{Entry}
 use Rattle.trial_laws.specs.Rows.{NoneHolds, refused_not_accepted}
 use Rattle.trial_laws.specs.CallLaws.{refused-is}
-use Rattle.panel_laws.specs.PlainLists.{held_plain}
-use Rattle.panel_laws.specs.PanelRows.{good-panel, total-room, roomy, first-lengths, try_add, own_rows, accepts, accepted_where}
+use Rattle.panel_laws.specs.PanelRows.{good-panel, total-room, try_add, own_rows, accepts, accepted_where}
 use Rattle.panel_laws.specs.AddLaws.{IsPanel}
 
 -- ---- what heads hold
@@ -36,7 +34,7 @@ unfolding either is_at
 counted_step true a bs e es is here later found = eqb-true e.held (occurrences e.address bs) (not-false (eqb e.held (occurrences e.address bs)) here) ∙ ap (λ x. occurrences x bs) (eqb-true e.address a is)
 counted_step false a bs e es is here later found = later found
 
-held-counted : (a : ℕ) (bs : List ℕ) (es : List Entry) → any (miscounted bs) es ≡ false → any (is_at a) es ≡ true → held_by a es ≡ occurrences a bs
+pub held-counted : (a : ℕ) (bs : List ℕ) (es : List Entry) → any (miscounted bs) es ≡ false → any (is_at a) es ≡ true → held_by a es ≡ occurrences a bs
 unfolding any miscounted held_by
 held-counted a bs [] counted found = absurd (subst T (sym found) tt)
 held-counted a bs (e ∷ es) counted found =
@@ -46,16 +44,6 @@ held-counted a bs (e ∷ es) counted found =
 pub all_held : {s : Panel} → IsPanel s → total_held s.entries ≤ 4096
 unfolding not_panel
 all_held {s} h = let bs = take (total_held s.entries) s.places.addresses in total-room s.entries bs (good-panel s.entries bs h.good)
-
-pub held-is : (a : ℕ) {s : Panel} → IsPanel s → unknown a s.entries ≡ false → held_by a s.entries ≡ length (head_ranges a (on_panel s))
-unfolding not_panel on_panel taken unknown
-held-is a {s} h is_known =
-    let n = total_held s.entries in
-    let p = s.places in
-    let bs = take n p.addresses in
-    let same = first-lengths n p (all_held h) (roomy p h.long) in
-    held-counted a bs s.entries (good-panel s.entries bs h.good).counted (not-false (any (is_at a) s.entries) is_known)
-    ∙ sym (held_plain a bs (take n p.times) (take n p.lows) (take n p.highs) same.0 same.1 same.2)
 
 part_step : (t : Bool) (e : Entry) (es : List Entry) (n : ℕ) → n ≤ 32 + common_taken es → either t e.held n ≤ 32 + common_taken (e ∷ es)
 unfolding either common_taken
@@ -76,12 +64,9 @@ most-held a {s} h =
 
 -- ---- 13
 
-own-place : (a : ℕ) (es : List Entry) → held_by a es < 32 → crowded a es ≡ false
+pub own-place : (a : ℕ) (es : List Entry) → held_by a es < 32 → crowded a es ≡ false
 unfolding crowded
 own-place a es less = ap (λ t. t && leb 2048 (common_taken es)) (lt-leb 32 (held_by a es) (omega (arith, less)))
-
-pub sure_of_32 : (s : Panel) (a : ℕ) (r : Range) → IsPanel s → unknown a s.entries ≡ false → held_by a s.entries < 32 → firstRow (own_rows s a r) ≡ accepted tt → try_add s a r ≡ accepted tt
-sure_of_32 s a r h is_known less passes = accepted_where s a r (record { long = h.long; good = h.good; is_known = is_known; passes = passes; uncrowded = own-place a s.entries less })
 
 -- above 32 the common places decide, which all heads take from
 pub common-decides : (s : Panel) (a : ℕ) (r : Range) → IsPanel s → unknown a s.entries ≡ false → 32 ≤ held_by a s.entries → firstRow (own_rows s a r) ≡ accepted tt → (try_add s a r ≡ accepted tt) ↔ (common_taken s.entries < 2048)
@@ -92,7 +77,7 @@ common-decides s a r h is_known more passes = (
 )
 
 -- the rows with the number n
-abbrev rows_with : ℕ → List Row → List Row
+abbrev pub rows_with : ℕ → List Row → List Row
 rows_with n [] = []
 rows_with n ((m if b) ∷ rows) = kept (eqb m n) (m if b) (rows_with n rows)
 
@@ -104,14 +89,10 @@ by_number false true m n rows is later h e = eqb-false m n is (refused-is e)
 by_number false false m n rows is later h e = later h e
 
 -- where none of these holds, n is not given
-not-given : (n : ℕ) (rows : List Row) → NoneHolds (rows_with n rows) → firstRow rows ≡ refused n → ⊥
+pub not-given : (n : ℕ) (rows : List Row) → NoneHolds (rows_with n rows) → firstRow rows ≡ refused n → ⊥
 unfolding firstRow
 not-given n [] h e = refused_not_accepted (sym e)
 not-given n ((m if b) ∷ rows) h e = by_number (eqb m n) b m n rows refl (not-given n rows) h e
-
-pub never-13 : (s : Panel) (a : ℕ) (r : Range) → held_by a s.entries < 32 → try_add s a r ≡ refused 13 → ⊥
-unfolding add_rows panel_rows range_rows kept
-never-13 s a r less e = not-given 13 (add_rows s a r) (own-place a s.entries less, tt) e
 
 -- ---- 14
 

@@ -3,7 +3,6 @@
 --     entries_of, entries-again          entries from their numbers; entries are made of their own
 --     addresses_of, held_of               the numbers of entries
 --     Heads                             what the trial of a panel is handed
---     held_plain                        how many ranges a head has, from the addresses alone
 --     hit, pass                         an `||` whose first test holds, or does not
 --     total-entries, common-entries, place-entries   the places held, the common places taken and the place of an address, from the entries' numbers
 --     bad_plain, bad-plain               14 on plain lists, in the order in which the code tries it
@@ -12,6 +11,7 @@
 --     crowd_full, crowd_own, crowd_left 13 from what the head holds and what is taken
 --     above-part                        what a head takes of the common places is part of what all take
 --
+-- Further laws stand in proofs/PlainLists.antt.
 -- Assumes nothing.
 use Rattle.std.specs.Prelude.{ℕ, zero, suc, ◌+◌, ◌-◌, ◌<◌, ◌≤◌, ◌≡◌, refl, Bool, true, false, ◌||◌, ◌&&◌, List, [], ◌∷◌, map, eqb, ltb, ℤ, length, get_or, take}
 use Rattle.std.proofs.Common.{arith, ◌∙◌}
@@ -48,20 +48,10 @@ addresses_of es = map (λ (e : Entry). e.address) es
 abbrev pub held_of : List Entry → List ℕ
 held_of es = map (λ (e : Entry). e.held) es
 
-kept-length : (t : Bool) (r : Range) (rs : List Range) → length (kept t r rs) ≡ counted_in t (length rs)
+pub kept-length : (t : Bool) (r : Range) (rs : List Range) → length (kept t r rs) ≡ counted_in t (length rs)
 unfolding kept counted_in
 kept-length true r rs = refl
 kept-length false r rs = refl
-
--- four lists of one length
-pub held_plain : (a : ℕ) (bs ts : List ℕ) (us vs : List ℤ) → length ts ≡ length bs → length us ≡ length bs → length vs ≡ length bs → length (head_ranges a (zip_taken bs ts us vs)) ≡ occurrences a bs
-unfolding head_ranges zip_taken occurrences
-held_plain a [] ts us vs p q r = refl
-held_plain a (b ∷ bs) [] us vs p q r = absurd (omega (arith, p))
-held_plain a (b ∷ bs) (t ∷ ts) [] vs p q r = absurd (omega (arith, q))
-held_plain a (b ∷ bs) (t ∷ ts) (u ∷ us) [] p q r = absurd (omega (arith, r))
-held_plain a (b ∷ bs) (t ∷ ts) (u ∷ us) (v ∷ vs) p q r =
-    kept-length (eqb b a) (record { time = t; low = u; high = v }) (head_ranges a (zip_taken bs ts us vs)) ∙ ap (counted_in (eqb b a)) (held_plain a bs ts us vs (omega (arith, p)) (omega (arith, q)) (omega (arith, r)))
 
 -- ---- the trial on plain lists
 

@@ -9,7 +9,7 @@
 --     still_room, no_room      head 1's next range is accepted beside 2,079 ranges of head 2, and refused with 13 beside 2,080
 --
 -- Assumes nothing.
-use Prim.Native.Nat.{ℕ, zero, suc, ◌+◌, ◌≤◌}
+use Prim.Native.Nat.{ℕ, zero, suc, ◌≤◌}
 use Rattle.std.proofs.Common.{add-one, arith, sym, ◌∙◌, length-append}
 use Rattle.std.specs.Prelude.{◌≡◌, false, ◌&&◌, eqb, pos, length, replicate}
 use Rattle.std.proofs.Math.Path.{refl, ap}
