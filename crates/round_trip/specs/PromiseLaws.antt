@@ -3,8 +3,8 @@
 --     promise-not_written    by Write's refusal, with nothing read
 --     promise_written        by what is read of the bytes written, if each time has 32 bits
 --     promise-not_read       by Read's refusal, with nothing written
---     promise_read           by what is written of the lists read, if the file is of bytes
 --
+-- Further laws stand in proofs/PromiseLaws.antt.
 -- Assumes nothing.
 use Rattle.std.specs.Prelude.{◌≡◌, Bool, ℕ, ℤ, length, take, drop}
 use Rattle.std.proofs.Math.Path.{refl, sym, ap}
@@ -37,7 +37,7 @@ use Rattle.trace.specs.BothWays.{first_of, bytes_written, trace_read, read_back,
 use Rattle.round_trip.specs.Promises.{long_enough, lists_back, rewritten, bytes_back, WriteReadPromise, ReadWritePromise}
 
 -- a call that tries its slices before all else
-by-room : {A : Type 0} (least : ℕ) (lengths : List ℕ) (call : Answer A) (a : A) → (too_short least lengths ≡ true → call ≡ refused 8) → (too_short least lengths ≡ false → call ≡ accepted a)
+pub by-room : {A : Type 0} (least : ℕ) (lengths : List ℕ) (call : Answer A) (a : A) → (too_short least lengths ≡ true → call ≡ refused 8) → (too_short least lengths ≡ false → call ≡ accepted a)
     → call ≡ (long_enough least lengths >>= λ ok. accepted a)
 unfolding firstRow ◌>>=◌
 by-room least lengths call a short long = by (too_short least lengths) refl
@@ -50,7 +50,7 @@ read_short : (lengths bs : List ℕ) → too_short read_room lengths ≡ true �
 unfolding read_call firstRow ◌>>=◌
 read_short lengths bs e = rw e refl
 
-write-short : (lengths : List ℕ) (h : Header) (lists : Lists) → too_short write_room lengths ≡ true → write_call lengths h lists ≡ refused 8
+pub write-short : (lengths : List ℕ) (h : Header) (lists : Lists) → too_short write_room lengths ≡ true → write_call lengths h lists ≡ refused 8
 unfolding write_call write_rows list_rows firstRow ◌>>=◌
 write-short lengths h lists e = rw e refl
 
@@ -120,32 +120,14 @@ promise-not_read {bs} {times₀} {lows₀ = lows₀} {highs₀ = highs₀} {n = 
 
 module _ {bs times₀ times : List ℕ} {lows₀ lows highs₀ highs : List ℤ} {known : TraceRecord} (read : ReadPromise bs times₀ lows₀ highs₀ times lows highs (ReadCase.Accepted known)) (bytes : Bytes bs)
     {copy₀ copy : List ℕ} {w : W.WriteAnswer} (written : WritePromise (head_of known) (first_of known.ranges times lows highs) copy₀ copy w) where
-  abbrev slices : List ℕ
+  abbrev pub slices : List ℕ
   slices = length times₀ ∷ length lows₀ ∷ length highs₀ ∷ []
 
   -- the file of the trace that was read, whether it has readings or not
-  rewritten_is : (t : Trace) → read_into times₀ lows₀ highs₀ bs ≡ accepted t → write_file t ≡ rewritten bs t
+  pub rewritten_is : (t : Trace) → read_into times₀ lows₀ highs₀ bs ≡ accepted t → write_file t ≡ rewritten bs t
   unfolding too_short any
   rewritten_is t e = by (reading_file bs) refl
     where
       by : (readings : Bool) → reading_file bs ≡ readings → write_file t ≡ cond readings (write_file t) bs
       by true is = refl
       by false is = accepted-is (sym (Laws.read-write [] slices bs t bytes refl e) ∙ (Laws.bytes_back [] slices bs t bytes refl e).0 is)
-
-  write_is : write_into copy₀ (head_of known) (first_of known.ranges times lows highs) ≡ bytes_back bs times₀ lows₀ highs₀ copy₀
-  unfolding ◌>>=◌
-  write_is =
-      let (t, e, f) = trace_read read in
-      let lists = first_of known.ranges times lows highs in
-      by-room write_room (length copy₀ ∷ []) (write_into copy₀ (head_of known) lists) (rewritten bs t) (write-short (length copy₀ ∷ []) (head_of known) lists) (λ long. write_back read bytes written long t e ∙ ap accepted (rewritten_is t e))
-      ∙ sym (ap (λ a. a >>= λ t. long_enough write_room (length copy₀ ∷ []) >>= λ ok. accepted (rewritten bs t)) e)
-
-  pub promise_read : ReadWritePromise bs times₀ lows₀ highs₀ copy₀ times lows highs copy w
-  promise_read = record {
-    answer_is = written.answer_is ∙ ap (λ a. a >>= λ bytes. accepted (length bytes)) write_is;
-    times_are = read.times_are;
-    lows_are = read.lows_are;
-    highs_are = read.highs_are;
-    copy_is = written.file_is ∙ ap (λ a. filled a (λ bytes. bytes) copy₀) write_is;
-    same_trace = λ t e. ap (read_into times₀ lows₀ highs₀) (sym (rewritten_is t e)) ∙ Laws.read_again slices bs t bytes e;
-  }

@@ -6,7 +6,8 @@ use mir.Facts.{to_z-of_z}
 use mir.Val.{SFits}
 use Rattle.trace_laws.specs.Numbers.{below_each}
 use Rattle.trace.specs.BothWays.{read_in}
-use Rattle.round_trip.specs.PromiseLaws.{promise-not_read, promise_read}
+use Rattle.round_trip.specs.PromiseLaws.{promise-not_read}
+use Rattle.round_trip.proofs.PromiseLaws.{promise_read}
 use Rattle.round_trip.proofs.read_then_write.Goals as goal
 
 -- ---- the goals
