@@ -18,7 +18,7 @@ use Rattle.panel.specs.Admissions.{answer_of}
 use Rattle.panel.specs.AdmissionLaws.{meaning-of}
 use Rattle.panel.specs.Courses.{Course, begun, then_add, then_ranges, accepted_by}
 use Rattle.panel_laws.specs.AddLaws.{AllEmpty}
-use Rattle.panel.specs.PanelTheorems.{places_add_up}
+use Rattle.panel.proofs.PanelTheorems.{places_add_up}
 use Rattle.humoraki.specs.Promises.{AfterAdd, HeadRangesLent, head_ranges_answer, AfterHeadRanges}
 use Rattle.humoraki.specs.Zero as Zero
 

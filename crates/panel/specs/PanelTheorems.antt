@@ -1,14 +1,12 @@
 -- What a caller of Add and Head ranges can rely on, as theorems about the panels, lists and answers that a caller holds. `Course start xs s` is any course of calls
 -- from the panel `start` to the panel s, each on the panel as the last one left it, in which the ranges xs were accepted in this order.
 --
---     places_add_up               the places held add up to the ranges accepted since the panel started
 --     course_on                   what stands on the panel is just these ranges in this order
 --     course_panel                what was a panel is one
 --     never_fourteen, ranges_never_fourteen   neither call gives 14 after a course from a panel that starts
 --     given_ranges                Head ranges, where it is accepted, gives the number of the head's accepted ranges, and the lists that it filled begin with their times, lows and highs
 --     ranges_given                it is accepted where the panel started, an entry has the address, and the lists are long
 --     own-only                    two courses in which a head had the same ranges accepted give the same number and the same first entries, whatever the others' ranges were
---     most_all                    at most 4,096 ranges are accepted in all
 --     proper_own, most_own        a head's accepted ranges are proper, and at most 2,080
 --     course_held                 its entry holds as many as were accepted of it
 --     own_segments                so Segment accepts what was filled in, and gives the segments of the head's own accepted ranges
@@ -28,6 +26,7 @@
 --     joined_same                 Head ranges then gives the same answer for every other address, and fills the lists as it did
 --     course-joins                and after a course it is as if it had been there from the start, so what is said here of courses goes on to hold
 --
+-- Further laws stand in proofs/PanelTheorems.antt.
 -- Assumes nothing.
 use Rattle.std.specs.Prelude.{ℕ, ◌+◌, ◌<◌, ◌≤◌, ◌≡◌, ◌↔◌, true, false, eqb, length, get_or, set, drop}
 use Rattle.std.proofs.Common.{arith, zero-add, sym, ◌∙◌, subst}
@@ -65,17 +64,12 @@ use Rattle.panel.specs.RangesGiven.{GivenRanges}
 -- ---- any course of calls
 
 module _ {start : Panel} {xs : List Taken} {s : Panel} (course : Course start xs s) where
-  pub places_add_up : AllEmpty start.entries → total_held s.entries ≡ length xs
-  places_add_up empty = held_course course ∙ ap (λ n. n + length xs) (none-held empty) ∙ zero-add (length xs)
 
   pub course_on : AllEmpty start.entries → on_panel s ≡ xs
   course_on empty = on_course course ∙ ap (λ (ys : List Taken). ys ++ xs) (nothing-on start empty)
 
   pub course_panel : IsPanel start → IsPanel s
   course_panel h = panel_course h course
-
-  pub most_all : Starts start → length xs ≤ 4096
-  most_all starts = subst (λ n. n ≤ 4096) (places_add_up starts.empty) (Held.all_held (course_panel (starts-panel starts)))
 
   pub proper_own : (a : ℕ) → AllEmpty start.entries → ProperRanges (head_ranges a xs)
   proper_own a empty = Given.proper_own a empty course
