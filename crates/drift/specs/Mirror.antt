@@ -2,13 +2,12 @@
 -- the trace (`promise`) and one on its image (`image`), whatever was lent; only the slices of both must be long enough, or some of each too short.
 --
 --     segment_mirrored           Segment gives the same number of segments, or is refused with the same number
---     rows_mirrored              where it accepted, the j-th row of the image has the same first and last time, number of ranges, *some* and *all*; its slow line is the fast line of the
---                                trace negated, −p, −q and the same d, and its fast line the slow one; the zeros of an open segment stay (`mirrored_numbers`)
 --     corners_answer_mirrored    Corners gives the same number of corners, or open again, or is refused with the same number
 --     ring_mirrored              where it gave corners, those of the image are the corners of the trace negated, in the same order, begun at the one of greatest slope and, past the last,
 --                                gone on with from the first (`TurnedRing`)
 --
 -- Rows are counted from 0. Example: where `promise` is about a falling trace, its image rises, and `rows_mirrored promise image alike e j h` tells the j-th row of the one by that of the other.
+-- Further laws stand in proofs/Mirror.antt.
 -- Assumes nothing.
 use Rattle.std.specs.Prelude.{◌≡◌, ℕ, ◌<◌, ℤ, length, get_or}
 use Rattle.std.proofs.Math.Path.{sym, ap}
@@ -45,7 +44,7 @@ use Rattle.drift.specs.MirroredCalls.{segment_call_mirrored, numbers-mirrored, r
 
 -- ---- the answers
 
-accepted-only : (a : SegmentAnswer) (n : ℕ) → segment_meaning a ≡ accepted n → a ≡ Accepted n
+pub accepted-only : (a : SegmentAnswer) (n : ℕ) → segment_meaning a ≡ accepted n → a ≡ Accepted n
 unfolding segment_meaning
 accepted-only (Accepted m) n e = ap Accepted (accepted-is e)
 accepted-only (Refused m) n e = refused_not_accepted e
@@ -59,19 +58,6 @@ corners-only (corners-answer.Refused m) n e = refused_not_accepted e
 -- ---- Segment
 
 module _ {v : Service} {ls : Lists} {old new old' new' : Columns} where
-  -- both accepted
-  row_mirrored : {n : ℕ} → SegmentPromise v ls old new (Accepted n) → SegmentPromise (mirrored_service v) (mirrored_lists ls) old' new' (Accepted n)
-      → too_short segment_room (lengths old') ≡ too_short segment_room (lengths old) → (j : ℕ) → j < n → row_at new' j ≡ mirrored_numbers (row_at new j)
-  unfolding ◌>>=◌ segment_of mirrored_segment mirrored_outlook
-  row_mirrored promise image alike j h =
-      let ss = segments_of v (ranges_of ls) in
-      let past = segment_of v [] in
-      let segments-are = accepted-is (sym (called image) ∙ segment_call_mirrored v ls (lengths old) (lengths old') alike ∙ ap (λ x. x >>= λ ss. accepted (map mirrored_segment ss)) (called promise)) in
-      row-at image j h
-      ∙ ap (λ xs. numbers_of (get_or xs j (mirrored_segment past))) segments-are
-      ∙ ap numbers_of (get_or-map mirrored_segment ss j past)
-      ∙ numbers-mirrored (get_or ss j past)
-      ∙ ap mirrored_numbers (sym (row-at promise j h))
 
   module _ {answer answer' : SegmentAnswer} (promise : SegmentPromise v ls old new answer) (image : SegmentPromise (mirrored_service v) (mirrored_lists ls) old' new' answer')
       (alike : too_short segment_room (lengths old') ≡ too_short segment_room (lengths old)) where
@@ -84,11 +70,6 @@ module _ {v : Service} {ls : Lists} {old new old' new' : Columns} where
         ∙ then-then call (λ ss. accepted (map mirrored_segment ss)) (λ ss. accepted (length ss))
         ∙ then_same call (λ ss. accepted (length (map mirrored_segment ss))) (λ ss. accepted (length ss)) (λ ss. ap accepted (length-map ss mirrored_segment))
         ∙ sym promise.answer_is
-
-    pub rows_mirrored : {n : ℕ} → segment_meaning answer ≡ accepted n → (j : ℕ) → j < n → row_at new' j ≡ mirrored_numbers (row_at new j)
-    rows_mirrored {n} e =
-        row_mirrored (subst (SegmentPromise v ls old new) (accepted-only answer n e) promise)
-        (subst (SegmentPromise (mirrored_service v) (mirrored_lists ls) old' new') (accepted-only answer' n (segment_mirrored ∙ e)) image) alike
 
 -- ---- Corners
 

@@ -35,7 +35,8 @@ use Rattle.drift.specs.SegmentPromise.{segment_meaning}
 use Rattle.drift.specs.CornersPromise.{corner_count, count_of, corners_meaning, three_lengths}
 use Rattle.drift.specs.GivenLines.{given_lines}
 use Rattle.drift.specs.MirroredCalls.{segment_call_mirrored, numbers-mirrored, corner_count_mirrored}
-use Rattle.drift.specs.Mirror.{segment_mirrored, rows_mirrored, ring_mirrored}
+use Rattle.drift.specs.Mirror.{segment_mirrored, ring_mirrored}
+use Rattle.drift.proofs.Mirror.{rows_mirrored}
 use Rattle.preview.specs.Mirror.{preview_call_mirrored}
 use Rattle.answer_numbers.specs.Told.{corner_number}
 use Rattle.humoraki.specs.Promises.{SegmentLent, segment_answer, AfterSegment, CornersLent, corners_answer, AfterCorners, PreviewLent, preview_answer, AfterPreview, LatestLent, latest_answer, AfterLatest}
