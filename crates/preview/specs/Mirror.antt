@@ -1,9 +1,8 @@
 -- Preview on a trace and on its mirror image: level, lows and highs negated, lows and highs exchanged, the direction turned, the step kept, and the range to be seen likewise.
 --
---     preview-mirrored         of two answers: refused with the same number; or the range joins in both or begins a segment in both, and the image has the same two times and the lines of the
---                              other negated, slow for fast (`mirrored_effect`)
 --     preview_call_mirrored    the same of the scope's calls
 --
+-- Further laws stand in proofs/Mirror.antt.
 -- Assumes nothing.
 use Rattle.std.specs.Prelude.{◌≡◌, refl, Bool, true, false, cond, ℕ, suc, eqb}
 use Rattle.std.proofs.Math.Path.{sym, ap}
@@ -68,8 +67,3 @@ module _ (v : Service) (ls : Lists) (r : Range) where
       ∙ then_same call (λ ss. accepted (effect_of n (map mirrored_segment ss))) (λ ss. accepted (mirrored_effect (effect_of n ss))) (λ ss. ap accepted (effect_mirrored n ss))
       ∙ sym (then-then call (λ ss. accepted (effect_of n ss)) (λ e. accepted (mirrored_effect e)))
 
--- ---- the answers
-
-pub preview-mirrored : {v : Service} {ls : Lists} {r : Range} {answer answer' : PreviewAnswer} → PreviewPromise v ls r answer → PreviewPromise (mirrored_service v) (mirrored_lists ls) (mirrored_range r) answer'
-    → preview_meaning answer' ≡ (preview_meaning answer >>= λ e. accepted (mirrored_effect e))
-preview-mirrored {v} {ls} {r} promise image = image.answer_is ∙ preview_call_mirrored v ls r ∙ ap (λ x. x >>= λ e. accepted (mirrored_effect e)) (sym promise.answer_is)
