@@ -58,7 +58,6 @@ corners-only (corners-answer.Refused m) n e = refused_not_accepted e
 -- ---- Segment
 
 module _ {v : Service} {ls : Lists} {old new old' new' : Columns} where
-
   module _ {answer answer' : SegmentAnswer} (promise : SegmentPromise v ls old new answer) (image : SegmentPromise (mirrored_service v) (mirrored_lists ls) old' new' answer')
       (alike : too_short segment_room (lengths old') ≡ too_short segment_room (lengths old)) where
     pub segment_mirrored : segment_meaning answer' ≡ segment_meaning answer

@@ -64,7 +64,6 @@ use Rattle.panel.specs.RangesGiven.{GivenRanges}
 -- ---- any course of calls
 
 module _ {start : Panel} {xs : List Taken} {s : Panel} (course : Course start xs s) where
-
   pub course_on : AllEmpty start.entries → on_panel s ≡ xs
   course_on empty = on_course course ∙ ap (λ (ys : List Taken). ys ++ xs) (nothing-on start empty)
 

@@ -66,4 +66,3 @@ module _ (v : Service) (ls : Lists) (r : Range) where
       ∙ then-then call (λ ss. accepted (map mirrored_segment ss)) (λ ss. accepted (effect_of n ss))
       ∙ then_same call (λ ss. accepted (effect_of n (map mirrored_segment ss))) (λ ss. accepted (mirrored_effect (effect_of n ss))) (λ ss. ap accepted (effect_mirrored n ss))
       ∙ sym (then-then call (λ ss. accepted (effect_of n ss)) (λ e. accepted (mirrored_effect e)))
-
