@@ -11,9 +11,11 @@ With --list nothing is written. Run it once.
 
 import os
 import re
+import subprocess
 import sys
 
-LIBRARY = "/opt/rattle/rattle"
+# The library stands beside the toolchain's first page.
+LIBRARY = os.path.join(os.path.dirname(subprocess.run(["rt", "doc"], capture_output=True, text=True, check=True).stdout.strip()), "rattle")
 CUT = r"[^\s(){}.;,@\"«»]+"
 MARKS = r"(?:(?:pattern|unfoldable|abbrev|axiom|pub) )*"
 DECLARED = re.compile(rf"^( *){MARKS}({CUT})(?: \{{[^}}\n]*\}})? :(?= |$)")
