@@ -19,7 +19,7 @@ use Rattle.panel.specs.TableLaws.{heads_of, count-is}
 use Rattle.panel.specs.AdmissionLaws.{room-left, later-numbered, add_number, answer_of-table, not-added, was-added}
 use Rattle.panel.specs.TableNumbers.{number_by, same_heads}
 use Rattle.panel_trial.specs.PassedRanges.{passed_on, read_back}
-use Rattle.panel.proofs.places.admit.Goals.{After-decide_by-decision, Else-number-ne0, Start}
+use Rattle.panel.proofs.places.admit.Goals.{After-decide_by-decision, Start}
 use Rattle.panel.proofs.places.admit.Goals as goal
 
 abbrev range : Start → Range
@@ -68,14 +68,12 @@ returns-then-number-ne0 c =
       for_entries = λ es e. not-added es (lent start) start.args.address (range start) c.decide_by-decision.result.number start.args.table.count 0 (number_is d es e) c.if-number-ne0.true (let l = count-is es in let n = ap (λ t. t.count) e in omega (arith, l, n));
     }
 
-next : (c : Else-number-ne0) → Within c.decide_by-decision.result.place (lent (goal.at.Else-number-ne0 c).Start)
-next c =
-    let start = (goal.at.Else-number-ne0 c).Start in
-    let d = (goal.at.Else-number-ne0 c).After-decide_by-decision in
-    subst (λ i. Within i (lent start)) (sym ((said d).accepts c.if-number-ne0.false).place_is) (room-left start.args.table (lent start) start.args.address (range start) (sym (number-plain d) ∙ c.if-number-ne0.false))
-
 pub put_range-requires : goal.put_range-requires
-put_range-requires c = let place = next (goal.at.put_range-requires c).Else-number-ne0 in record { in_addresses = place.in_addresses; in_times = place.in_times; in_lows = place.in_lows; in_highs = place.in_highs }
+put_range-requires c =
+    let start = (goal.at.put_range-requires c).Start in
+    let d = (goal.at.put_range-requires c).After-decide_by-decision in
+    let place = subst (λ i. Within i (lent start)) (sym ((said d).accepts c.if-number-ne0.false).place_is) (room-left start.args.table (lent start) start.args.address (range start) (sym (number-plain d) ∙ c.if-number-ne0.false)) in
+    record { in_addresses = place.in_addresses; in_times = place.in_times; in_lows = place.in_lows; in_highs = place.in_highs }
 
 put_as : (c : Start) {i : ℕ} {p' : Places} → Put i c.args.address (passed_on (range c)) (lent c) p' → Put i c.args.address (range c) (lent c) p'
 put_as c {i} {p'} h = subst (λ x. Put i c.args.address x (lent c) p') (read c) h

@@ -18,7 +18,7 @@ use Rattle.trial_laws.specs.LeastTime.{time_before}
 use Rattle.trial_laws.specs.ListTrial.{range-numbered}
 use Rattle.panel_laws.specs.PanelRows.{crowded-out, let_in, refused-first}
 use Rattle.panel_trial.specs.PassedRanges.{passed_on, read_back}
-use Rattle.panel_trial.proofs.decisions.decide_range.Goals.{After-place_of-at, After-try_range-number, Joined-else-holds-ge-SURE_PLACES, Start, Then-common-ge-COMMON_PLACES}
+use Rattle.panel_trial.proofs.decisions.decide_range.Goals.{After-place_of-at, After-try_range-number, Start, Then-common-ge-COMMON_PLACES}
 use Rattle.panel_trial.proofs.decisions.decide_range.Goals as goal
 
 -- the places held are within a list that has room
@@ -99,23 +99,19 @@ overflow_add-result c =
     let left = start.requires.common_left in
     omega (arith, part, common, left)
 
-not-crowded : (c : Joined-else-holds-ge-SURE_PLACES) → let start = (goal.at.Joined-else-holds-ge-SURE_PLACES c).Start in crowded start.args.address (entries_of start.args.heads.now start.args.held.now) ≡ false
-not-crowded c =
-    let start = (goal.at.Joined-else-holds-ge-SURE_PLACES c).Start in
-    let at = c.place_of-at in
-    let common = c.common_of-common in
-    ⊎_elim
-    (λ w. crowd_left start.args.address start.args.heads.now start.args.held.now at.result start.requires.given.heads_are.same at.ensures common.result common.ensures w.1)
-    (λ w. crowd_own start.args.address start.args.heads.now start.args.held.now at.result start.requires.given.heads_are.same at.ensures common.result common.ensures w)
-    c.else-holds-ge-SURE_PLACES.either
-
 pub returns : goal.returns
 unfolding later_rows
 returns c =
     let start = (goal.at.returns c).Start in
     let total = c.total_of-total in
+    let at = c.place_of-at in
+    let common = c.common_of-common in
+    let not-crowded : crowded start.args.address (entries_of start.args.heads.now start.args.held.now) ≡ false = ⊎_elim
+    (λ w. crowd_left start.args.address start.args.heads.now start.args.held.now at.result start.requires.given.heads_are.same at.ensures common.result common.ensures w.1)
+    (λ w. crowd_own start.args.address start.args.heads.now start.args.held.now at.result start.requires.given.heads_are.same at.ensures common.result common.ensures w)
+    c.else-holds-ge-SURE_PLACES.either in
     record {
-      number_is = sym (let_in _ _ (range-numbered _ (range start)) (sym (own-rows (goal.at.returns c).After-try_range-number) ∙ c.if-number-ne0.false) (not-crowded (goal.at.returns c).Joined-else-holds-ge-SURE_PLACES));
+      number_is = sym (let_in _ _ (range-numbered _ (range start)) (sym (own-rows (goal.at.returns c).After-try_range-number) ∙ c.if-number-ne0.false) not-crowded);
       accepts = λ nought. record {
         at-is = c.place_of-at.ensures ∙ sym (place-entries start.args.address start.args.heads.now start.args.held.now start.requires.given.heads_are.same);
         held-is = holds_next start.args.address start.args.heads.now start.args.held.now c.place_of-at.result start.requires.given.heads_are.same c.place_of-at.ensures;

@@ -1,13 +1,9 @@
 -- Proof of `panel_trial::decisions::try_panel`: each way out has passed the rows before its own. Assumes nothing.
-use mathlib.Core.Path.{◌≡◌, sym, ap, ◌∙◌}
-use mathlib.Core.Bool.{false, ◌||◌}
-use lib.ListN.{take}
-use Rattle.definitions.specs.Panels.{bad_panel, total_held}
-use Rattle.panel_laws.specs.PlainLists.{found, missing, entries_of, hit, pass}
+use mathlib.Core.Path.{sym, ap, ◌∙◌}
+use Rattle.panel_laws.specs.PlainLists.{found, missing, hit, pass}
 use Rattle.definitions.specs.Answers.{refusal}
 use Rattle.trial_laws.specs.Rows.{row-holds}
 use Rattle.panel_laws.specs.PanelRows.{panel_trial, panel-bad, panel-unknown, panel-passed}
-use Rattle.panel_trial.proofs.decisions.try_panel.Goals.{Else-bad, Start}
 use Rattle.panel_trial.proofs.decisions.try_panel.Goals as goal
 
 pub returns-then-short : goal.returns-then-short
@@ -20,17 +16,12 @@ returns-then-many c = sym (panel-bad _ _ _ _ c.if-short.false (hit c.if-many.tru
 pub returns-then-bad : goal.returns-then-bad
 returns-then-bad c = sym (panel-bad _ _ _ _ c.if-short.false (pass c.if-many.false _ ∙ sym c.panel_bad-bad.ensures ∙ c.if-bad.true))
 
-good : (c : Else-bad) → let args = c.args in let es = entries_of args.heads.now args.held.now in (args.many || bad_panel es (take (total_held es) args.addresses.now)) ≡ false
-good c = pass c.if-many.false _ ∙ sym c.panel_bad-bad.ensures ∙ c.if-bad.false
-
 pub returns-then-known : goal.returns-then-known
 returns-then-known c =
-    let past = (goal.at.returns-then-known c).Else-bad in
     let at = c.place_of-at in
-    sym (panel-passed _ _ _ _ c.if-short.false (good past) (found c.args.address c.args.heads.now c.args.held.now at.result (c.requires c.if-short.false).same at.ensures c.if-known.true))
+    sym (panel-passed _ _ _ _ c.if-short.false (pass c.if-many.false _ ∙ sym c.panel_bad-bad.ensures ∙ c.if-bad.false) (found c.args.address c.args.heads.now c.args.held.now at.result (c.requires c.if-short.false).same at.ensures c.if-known.true))
 
 pub returns-else-known : goal.returns-else-known
 returns-else-known c =
-    let past = (goal.at.returns-else-known c).Else-bad in
     let at = c.place_of-at in
-    sym (panel-unknown _ _ _ _ c.if-short.false (good past) (missing c.args.address c.args.heads.now c.args.held.now at.result (c.requires c.if-short.false).same at.ensures c.if-known.false))
+    sym (panel-unknown _ _ _ _ c.if-short.false (pass c.if-many.false _ ∙ sym c.panel_bad-bad.ensures ∙ c.if-bad.false) (missing c.args.address c.args.heads.now c.args.held.now at.result (c.requires c.if-short.false).same at.ensures c.if-known.false))
