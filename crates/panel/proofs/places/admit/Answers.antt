@@ -72,7 +72,8 @@ pub put_range-requires : goal.put_range-requires
 put_range-requires c =
     let start = (goal.at.put_range-requires c).Start in
     let d = (goal.at.put_range-requires c).After-decide_by-decision in
-    let place = subst (λ i. Within i (lent start)) (sym ((said d).accepts c.if-number-ne0.false).place_is) (room-left start.args.table (lent start) start.args.address (range start) (sym (number-plain d) ∙ c.if-number-ne0.false)) in
+    let passed = c.if-number-ne0.false in
+    let place = subst (λ i. Within i (lent start)) (sym ((said d).accepts passed).place_is) (room-left start.args.table (lent start) start.args.address (range start) (sym (number-plain d) ∙ passed)) in
     record { in_addresses = place.in_addresses; in_times = place.in_times; in_lows = place.in_lows; in_highs = place.in_highs }
 
 put_as : (c : Start) {i : ℕ} {p' : Places} → Put i c.args.address (passed_on (range c)) (lent c) p' → Put i c.args.address (range c) (lent c) p'
