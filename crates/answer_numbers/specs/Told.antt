@@ -7,23 +7,24 @@
 --
 -- The number is 0 where the answer accepts. Where it refuses, a lent number holds its old value: so says `given`.
 -- Assumes nothing.
-use Rattle.std.specs.Prelude.{ℕ, ◌≡◌, ℤ}
+use Rattle.definitions.specs.declared.refusals.Refusal.{Refusal}
+use Rattle.std.specs.Prelude.{ℕ, ◌≡◌, ℤ, Result}
 use Rattle.definitions.specs.Answers.{Answer, refusal, given}
 use Rattle.definitions.specs.Previews.{kind_number, effect_outlook}
 use Rattle.definitions.specs.Results.{OutlookNumbers, outlook_numbers}
-use Rattle.trace.specs.declared.ReadAnswer.{ReadAnswer}
+use Rattle.trace.specs.declared.TraceRecord.{TraceRecord}
 use Rattle.trace.specs.Promises.{read_meaning}
 use Rattle.drift.specs.CornersPromise.{CornerCount, unbounded, corner_count}
-use Rattle.preview.specs.declared.PreviewAnswer.{PreviewAnswer}
+use Rattle.preview.specs.declared.Effect.{Effect as EffectOfCode}
+use Rattle.latest.specs.declared.Trend.{Trend}
 use Rattle.preview.specs.PreviewPromise.{preview_meaning}
-use Rattle.latest.specs.declared.LatestAnswer.{LatestAnswer}
 use Rattle.latest.specs.LatestPromise.{latest_meaning}
 
 pub record Counts {B : Type 0} (answer : Answer B) (size : B → ℕ) (old new number : ℕ) : Type 0 where
   pub number_is : number ≡ refusal answer
   pub count-is : new ≡ given answer size old
 
-pub record ReadTold (answer : ReadAnswer) (address : ℕ) (level : ℤ) (direction step ranges address' : ℕ) (level' : ℤ) (direction' step' ranges' number : ℕ) : Type 0 where
+pub record ReadTold (answer : Result TraceRecord Refusal) (address : ℕ) (level : ℤ) (direction step ranges address' : ℕ) (level' : ℤ) (direction' step' ranges' number : ℕ) : Type 0 where
   pub number_is : number ≡ refusal (read_meaning answer)
   pub address_is : address' ≡ given (read_meaning answer) (λ known. known.address) address
   pub level_is : level' ≡ given (read_meaning answer) (λ known. known.level) level
@@ -39,12 +40,12 @@ corner_number (corner_count n) = n
 abbrev pub eight : ℤ → ℤ → ℤ → ℤ → ℤ → ℤ → ℕ → ℕ → OutlookNumbers
 eight a b c x y z some all = record { slow = record { p = a; q = b; d = c }; fast = record { p = x; q = y; d = z }; some = some; all = all }
 
-pub record PreviewTold (answer : PreviewAnswer) (kind : ℕ) (numbers : OutlookNumbers) (kind' : ℕ) (numbers' : OutlookNumbers) (number : ℕ) : Type 0 where
+pub record PreviewTold (answer : Result EffectOfCode Refusal) (kind : ℕ) (numbers : OutlookNumbers) (kind' : ℕ) (numbers' : OutlookNumbers) (number : ℕ) : Type 0 where
   pub number_is : number ≡ refusal (preview_meaning answer)
   pub kind_is : kind' ≡ given (preview_meaning answer) kind_number kind
   pub numbers_are : numbers' ≡ given (preview_meaning answer) (λ e. outlook_numbers (effect_outlook e)) numbers
 
-pub record LatestTold (answer : LatestAnswer) (ranges : ℕ) (numbers : OutlookNumbers) (corners ranges' : ℕ) (numbers' : OutlookNumbers) (corners' number : ℕ) : Type 0 where
+pub record LatestTold (answer : Result Trend Refusal) (ranges : ℕ) (numbers : OutlookNumbers) (corners ranges' : ℕ) (numbers' : OutlookNumbers) (corners' number : ℕ) : Type 0 where
   pub number_is : number ≡ refusal (latest_meaning answer)
   pub ranges_is : ranges' ≡ given (latest_meaning answer) (λ t. t.ranges) ranges
   pub numbers_are : numbers' ≡ given (latest_meaning answer) (λ t. outlook_numbers t.outlook) numbers

@@ -7,17 +7,17 @@
 --     latest-accepted, latest-refused                         Latest's
 --
 -- Assumes nothing.
-use Rattle.std.specs.Prelude.{ℕ, ◌≡◌, ℤ}
+use Rattle.definitions.specs.declared.refusals.Refusal.{Refusal}
+use Rattle.std.specs.Prelude.{ℕ, ◌≡◌, ℤ, Result}
 use Rattle.std.proofs.Common.{sym, ap, ◌∙◌}
 use Rattle.definitions.specs.Answers.{Answer, refused, accepted, refusal, given}
 use Rattle.definitions.specs.Previews.{Effect, kind_number, effect_outlook}
 use Rattle.definitions.specs.Results.{OutlookNumbers, outlook_numbers}
 use Rattle.trace.specs.declared.TraceRecord.{TraceRecord}
-use Rattle.trace.specs.declared.ReadAnswer.{ReadAnswer}
 use Rattle.trace.specs.Promises.{read_meaning}
-use Rattle.preview.specs.declared.PreviewAnswer.{PreviewAnswer}
+use Rattle.preview.specs.declared.Effect.{Effect as EffectOfCode}
+use Rattle.latest.specs.declared.Trend.{Trend}
 use Rattle.preview.specs.PreviewPromise.{preview_meaning}
-use Rattle.latest.specs.declared.LatestAnswer.{LatestAnswer}
 use Rattle.latest.specs.LatestPromise.{Told, latest_meaning}
 use Rattle.answer_numbers.specs.Told.{Counts, ReadTold, PreviewTold, LatestTold}
 
@@ -44,7 +44,7 @@ pub counts-refused : {A : Type 0} {answer : Answer A} {n : ℕ} → answer ≡ r
 counts-refused e size old = record { number_is = number-refused e; count-is = given-refused e size old }
 
 -- the level is stored as bits, so its equation comes with it
-pub read-accepted : {answer : ReadAnswer} {known : TraceRecord} → read_meaning answer ≡ accepted known → {level' : ℤ} → level' ≡ known.level → (address : ℕ) (level : ℤ) (direction step ranges : ℕ)
+pub read-accepted : {answer : Result TraceRecord Refusal} {known : TraceRecord} → read_meaning answer ≡ accepted known → {level' : ℤ} → level' ≡ known.level → (address : ℕ) (level : ℤ) (direction step ranges : ℕ)
     → ReadTold answer address level direction step ranges known.address level' known.direction known.step known.ranges 0
 read-accepted e is-level address level direction step ranges =
     record {
@@ -56,7 +56,7 @@ read-accepted e is-level address level direction step ranges =
       ranges_is = given-accepted e (λ known. known.ranges) ranges;
     }
 
-pub read-refused : {answer : ReadAnswer} {n : ℕ} → read_meaning answer ≡ refused n → (address : ℕ) (level : ℤ) (direction step ranges : ℕ) → ReadTold answer address level direction step ranges address level direction step ranges n
+pub read-refused : {answer : Result TraceRecord Refusal} {n : ℕ} → read_meaning answer ≡ refused n → (address : ℕ) (level : ℤ) (direction step ranges : ℕ) → ReadTold answer address level direction step ranges address level direction step ranges n
 read-refused e address level direction step ranges =
     record {
       number_is = number-refused e;
@@ -67,16 +67,16 @@ read-refused e address level direction step ranges =
       ranges_is = given-refused e (λ known. known.ranges) ranges;
     }
 
-pub preview-accepted : {answer : PreviewAnswer} {e : Effect} → preview_meaning answer ≡ accepted e → (kind : ℕ) (numbers : OutlookNumbers) {numbers' : OutlookNumbers} → numbers' ≡ outlook_numbers (effect_outlook e)
+pub preview-accepted : {answer : Result EffectOfCode Refusal} {e : Effect} → preview_meaning answer ≡ accepted e → (kind : ℕ) (numbers : OutlookNumbers) {numbers' : OutlookNumbers} → numbers' ≡ outlook_numbers (effect_outlook e)
     → PreviewTold answer kind numbers (kind_number e) numbers' 0
 preview-accepted is kind numbers told =
     record { number_is = number-accepted is; kind_is = given-accepted is kind_number kind; numbers_are = told ∙ given-accepted is (λ e. outlook_numbers (effect_outlook e)) numbers }
 
-pub preview-refused : {answer : PreviewAnswer} {n : ℕ} → preview_meaning answer ≡ refused n → (kind : ℕ) (numbers : OutlookNumbers) → PreviewTold answer kind numbers kind numbers n
+pub preview-refused : {answer : Result EffectOfCode Refusal} {n : ℕ} → preview_meaning answer ≡ refused n → (kind : ℕ) (numbers : OutlookNumbers) → PreviewTold answer kind numbers kind numbers n
 preview-refused is kind numbers =
     record { number_is = number-refused is; kind_is = given-refused is kind_number kind; numbers_are = given-refused is (λ e. outlook_numbers (effect_outlook e)) numbers }
 
-pub latest-accepted : {answer : LatestAnswer} {t : Told} → latest_meaning answer ≡ accepted t → (ranges : ℕ) (numbers : OutlookNumbers) (corners : ℕ) {numbers' : OutlookNumbers} → numbers' ≡ outlook_numbers t.outlook
+pub latest-accepted : {answer : Result Trend Refusal} {t : Told} → latest_meaning answer ≡ accepted t → (ranges : ℕ) (numbers : OutlookNumbers) (corners : ℕ) {numbers' : OutlookNumbers} → numbers' ≡ outlook_numbers t.outlook
     → LatestTold answer ranges numbers corners t.ranges numbers' t.corners 0
 latest-accepted is ranges numbers corners told =
     record {
@@ -86,7 +86,7 @@ latest-accepted is ranges numbers corners told =
       corners_is = given-accepted is (λ t. t.corners) corners;
     }
 
-pub latest-refused : {answer : LatestAnswer} {n : ℕ} → latest_meaning answer ≡ refused n → (ranges : ℕ) (numbers : OutlookNumbers) (corners : ℕ) → LatestTold answer ranges numbers corners ranges numbers corners n
+pub latest-refused : {answer : Result Trend Refusal} {n : ℕ} → latest_meaning answer ≡ refused n → (ranges : ℕ) (numbers : OutlookNumbers) (corners : ℕ) → LatestTold answer ranges numbers corners ranges numbers corners n
 latest-refused is ranges numbers corners =
     record {
       number_is = number-refused is;

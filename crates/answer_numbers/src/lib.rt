@@ -4,27 +4,22 @@
 
 ghost use Rattle.std.specs.Prelude.{◌≡◌};
 ghost use Rattle.definitions.specs.Answers.{refusal};
+ghost use Rattle.definitions.specs.Refusals.{answered};
 ghost use Rattle.definitions.specs.Results.{outlook_numbers};
-ghost use Rattle.trace.specs.Promises.{write_meaning};
-ghost use Rattle.panel.specs.Promises.{add_meaning, head_ranges_meaning};
 ghost use Rattle.values.specs.Meanings.{line_of, outlook_of};
-ghost use Rattle.drift.specs.SegmentPromise.{segment_meaning};
 ghost use Rattle.drift.specs.CornersPromise.{corners_meaning};
-ghost use Rattle.report_text.specs.ReportPromise.{report_meaning};
 ghost use Rattle.answer_numbers.specs.Told.{Counts, ReadTold, corner_number, eight, PreviewTold, LatestTold};
 
-use drift::{CornersAnswer, SegmentAnswer};
-use latest::LatestAnswer;
-use panel::{AddAnswer, HeadRangesAnswer};
-use preview::PreviewAnswer;
-use report_text::ReportAnswer;
-use trace::{ReadAnswer, WriteAnswer};
-use values::rows::outlook_row;
+use definitions::refusals::Refusal;
+use latest::Trend;
+use preview::Effect;
+use trace::TraceRecord;
+use values::rows::OutlookRow;
 use values::{Line, Outlook};
 
 // An answer of Read: address, level, direction, step and number of ranges.
 pub fn tell_read(
-    answer: ReadAnswer,
+    answer: Result<TraceRecord, Refusal>,
     address: &mut u32,
     level: &mut i32,
     direction: &mut u32,
@@ -34,59 +29,41 @@ pub fn tell_read(
     ensures { ReadTold answer address.old level.old direction.old step.old ranges.old address.new level.new direction.new step.new ranges.new result }
 {
     match answer {
-        ReadAnswer::Accepted(known) => {
-            let service = known.level;
+        Ok(known) => {
             *address = known.address;
-            *level = service;
+            *level = known.level;
             *direction = known.direction;
             *step = known.step;
             *ranges = known.ranges;
             0
         }
-        ReadAnswer::Refused(number) => number,
+        Err(bad_file) => u8::from(bad_file),
     }
 }
 
-// An answer of Write: the count of the file's bytes.
-pub fn tell_write(answer: WriteAnswer, count: &mut usize) -> u8
-    ensures { Counts (write_meaning answer) (λ n. n) count.old count.new result }
+// An answer with a count: the bytes that Write or the report gives, the segments of Segment, the ranges of Head ranges.
+pub fn tell_count(answer: Result<usize, Refusal>, count: &mut usize) -> u8
+    ensures { Counts (answered answer) (λ n. n) count.old count.new result }
 {
     match answer {
-        WriteAnswer::Accepted(bytes) => {
-            *count = bytes;
+        Ok(given) => {
+            *count = given;
             0
         }
-        WriteAnswer::Refused(number) => number,
-    }
-}
-
-// An answer of Segment: the count of the segments.
-pub fn tell_segment(answer: SegmentAnswer, count: &mut usize) -> u8
-    ensures { Counts (segment_meaning answer) (λ n. n) count.old count.new result }
-{
-    match answer {
-        SegmentAnswer::Accepted(segments) => {
-            *count = segments;
-            0
-        }
-        SegmentAnswer::Refused(number) => number,
+        Err(refusal) => u8::from(refusal),
     }
 }
 
 // An answer of Corners: the count of the corners, which is 0 where the fit is open.
-pub fn tell_corners(answer: CornersAnswer, count: &mut usize) -> u8
+pub fn tell_corners(answer: Result<Option<usize>, Refusal>, count: &mut usize) -> u8
     ensures { Counts (corners_meaning answer) corner_number count.old count.new result }
 {
     match answer {
-        CornersAnswer::Corners(corners) => {
-            *count = corners;
+        Ok(corners) => {
+            *count = corners.unwrap_or(0);
             0
         }
-        CornersAnswer::Open => {
-            *count = 0;
-            0
-        }
-        CornersAnswer::Refused(number) => number,
+        Err(bad_lists) => u8::from(bad_lists),
     }
 }
 
@@ -94,12 +71,9 @@ pub fn tell_corners(answer: CornersAnswer, count: &mut usize) -> u8
 fn tell_line(l: Line, into_p: &mut i64, into_q: &mut i64, into_d: &mut i64)
     ensures { line_of l ≡ record { p = into_p.new; q = into_q.new; d = into_d.new } }
 {
-    let p = l.p;
-    let q = l.q;
-    let d = l.d;
-    *into_p = p;
-    *into_q = q;
-    *into_d = d;
+    *into_p = l.p;
+    *into_q = l.q;
+    *into_d = l.d;
 }
 
 // An outlook into eight lent numbers.
@@ -116,18 +90,16 @@ fn tell_outlook(
 )
     ensures { eight slow_p.new slow_q.new slow_d.new fast_p.new fast_q.new fast_d.new some.new all.new ≡ outlook_numbers (outlook_of o) }
 {
-    let row = outlook_row(o);
-    let slow = row.slow;
-    let fast = row.fast;
-    tell_line(slow, slow_p, slow_q, slow_d);
-    tell_line(fast, fast_p, fast_q, fast_d);
+    let row = OutlookRow::from(o);
+    tell_line(row.slow, slow_p, slow_q, slow_d);
+    tell_line(row.fast, fast_p, fast_q, fast_d);
     *some = row.some;
     *all = row.all;
 }
 
 // An answer of Preview: the kind, 0 where the range joins the last segment and 1 where it begins one, and the outlook.
 pub fn tell_preview(
-    answer: PreviewAnswer,
+    answer: Result<Effect, Refusal>,
     kind: &mut u32,
     slow_p: &mut i64,
     slow_q: &mut i64,
@@ -141,23 +113,25 @@ pub fn tell_preview(
     ensures { PreviewTold answer kind.old (eight slow_p.old slow_q.old slow_d.old fast_p.old fast_q.old fast_d.old some.old all.old) kind.new (eight slow_p.new slow_q.new slow_d.new fast_p.new fast_q.new fast_d.new some.new all.new) result }
 {
     match answer {
-        PreviewAnswer::Joins(o) => {
-            *kind = 0;
-            tell_outlook(o, slow_p, slow_q, slow_d, fast_p, fast_q, fast_d, some, all);
-            0
-        }
-        PreviewAnswer::Begins(o) => {
-            *kind = 1;
-            tell_outlook(o, slow_p, slow_q, slow_d, fast_p, fast_q, fast_d, some, all);
-            0
-        }
-        PreviewAnswer::Refused(number) => number,
+        Ok(effect) => match effect {
+            Effect::Joins(o) => {
+                *kind = 0;
+                tell_outlook(o, slow_p, slow_q, slow_d, fast_p, fast_q, fast_d, some, all);
+                0
+            }
+            Effect::Begins(o) => {
+                *kind = 1;
+                tell_outlook(o, slow_p, slow_q, slow_d, fast_p, fast_q, fast_d, some, all);
+                0
+            }
+        },
+        Err(bad_range) => u8::from(bad_range),
     }
 }
 
 // An answer of Latest: how many ranges the trend has, its outlook, and the count of its corners.
 pub fn tell_latest(
-    answer: LatestAnswer,
+    answer: Result<Trend, Refusal>,
     ranges: &mut usize,
     slow_p: &mut i64,
     slow_q: &mut i64,
@@ -172,49 +146,32 @@ pub fn tell_latest(
     ensures { LatestTold answer ranges.old (eight slow_p.old slow_q.old slow_d.old fast_p.old fast_q.old fast_d.old some.old all.old) corners.old ranges.new (eight slow_p.new slow_q.new slow_d.new fast_p.new fast_q.new fast_d.new some.new all.new) corners.new result }
 {
     match answer {
-        LatestAnswer::Accepted(trend) => {
-            let o = trend.outlook;
+        Ok(trend) => {
             *ranges = trend.ranges;
-            tell_outlook(o, slow_p, slow_q, slow_d, fast_p, fast_q, fast_d, some, all);
+            tell_outlook(
+                trend.outlook,
+                slow_p,
+                slow_q,
+                slow_d,
+                fast_p,
+                fast_q,
+                fast_d,
+                some,
+                all,
+            );
             *corners = trend.corners;
             0
         }
-        LatestAnswer::Refused(number) => number,
-    }
-}
-
-// An answer of the report: the count of its bytes.
-pub fn tell_report(answer: ReportAnswer, count: &mut usize) -> u8
-    ensures { Counts (report_meaning answer) (λ n. n) count.old count.new result }
-{
-    match answer {
-        ReportAnswer::Accepted(length) => {
-            *count = length;
-            0
-        }
-        ReportAnswer::Refused(number) => number,
+        Err(bad_trace) => u8::from(bad_trace),
     }
 }
 
 // An answer of Add: the number alone.
-pub fn add_number(answer: AddAnswer) -> u8
-    ensures { result ≡ refusal (add_meaning answer) }
+pub fn add_number(answer: Result<(), Refusal>) -> u8
+    ensures { result ≡ refusal (answered answer) }
 {
     match answer {
-        AddAnswer::Accepted => 0,
-        AddAnswer::Refused(number) => number,
-    }
-}
-
-// An answer of Head ranges: the count of the ranges.
-pub fn tell_head_ranges(answer: HeadRangesAnswer, count: &mut usize) -> u8
-    ensures { Counts (head_ranges_meaning answer) (λ n. n) count.old count.new result }
-{
-    match answer {
-        HeadRangesAnswer::Accepted(ranges) => {
-            *count = ranges;
-            0
-        }
-        HeadRangesAnswer::Refused(number) => number,
+        Ok(()) => 0,
+        Err(not_added) => u8::from(not_added),
     }
 }

@@ -240,13 +240,10 @@ pub fn highest(us: &[i64]) -> i64
     ensures { (k : ℕ) → k < length us.now → get_or us.now k (pos 0) ≤ℤ result }
 {
     let mut best = us[0];
-    let mut i = 1;
-    while i < us.len() {
-        let u = us[i];
+    for &u in us {
         if best < u {
             best = u;
         }
-        i += 1;
     }
     best
 }

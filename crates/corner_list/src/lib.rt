@@ -3,17 +3,18 @@
 
 ghost use Rattle.std.specs.Prelude.{false, [], ◌∷◌, ◌+◌, ◌-◌};
 ghost use Rattle.definitions.specs.Corners.{reduced as reducedOf};
-ghost use Rattle.drift_laws.specs.ChainParts.{chain, of_chain};
+ghost use Rattle.drift_laws.specs.ChainParts.{of_chain};
 ghost use Rattle.drift_laws.specs.ChainLines.{Rises};
 ghost use Rattle.drift_laws.specs.LineRows.{RowRoom, RowsSet};
 ghost use Rattle.values.specs.Meanings.{line_of};
 ghost use Rattle.values.specs.Small.{Small};
+ghost use Rattle.fit.specs.ChainsOfEnds.{chain_of};
 ghost use Rattle.fit.specs.Polygons.{Held, Shape};
 ghost use Rattle.corner_list.specs.CornerRows.{ChainListed, ProperCorners, points, CornersListed};
 
-use fit::ends::point_at;
+use fit::ends::{End, point_at};
 use fit::points::{steeper, through};
-use fit::polygon::Polygon;
+use fit::polygon::{Part, Polygon};
 use values::Line;
 use values::lowest_terms::reduced;
 use values::storing::store_line;
@@ -23,64 +24,47 @@ fn put(ps: &mut [i64], qs: &mut [i64], ds: &mut [i64], at: usize, l: Line)
     requires { (Small l) × (RowRoom (at + 1) ps.old qs.old ds.old) }
     ensures { RowsSet at (reducedOf (line_of l) ∷ []) ps.old qs.old ds.old ps.new qs.new ds.new }
 {
-    let r = reduced(l);
-    store_line(ps, qs, ds, at, r);
+    store_line(ps, qs, ds, at, reduced(l));
 }
 
-// The lines through neighbours of a chain, from the place at on, and the place after them.
+// The lines through neighbours of a part of a chain, from the place at on, and the place after them.
 fn list_chain(
-    times: &[u32],
-    values: &[i32],
-    from: usize,
-    to: usize,
+    ends: &[End],
+    p: Part,
     ps: &mut [i64],
     qs: &mut [i64],
     ds: &mut [i64],
     at: usize,
 ) -> usize
-    requires { (Held (record { start = from; end = to }) (chain times.now values.now)) × (Rises (of_chain false (chain times.now values.now)) from to) × (RowRoom (at + (to - from - 1)) ps.old qs.old ds.old) }
-    ensures { ChainListed (of_chain false (chain times.now values.now)) from to ps.old qs.old ds.old at ps.new qs.new ds.new result }
+    requires { (Held p (chain_of ends.now)) × (Rises (of_chain false (chain_of ends.now)) p.start p.end) × (RowRoom (at + (p.end - p.start - 1)) ps.old qs.old ds.old) }
+    ensures { ChainListed (of_chain false (chain_of ends.now)) p.start p.end ps.old qs.old ds.old at ps.new qs.new ds.new result }
 {
-    let mut j = from + 1;
-    let mut n = at;
-    while j < to {
-        let a = point_at(times, values, false, j - 1);
-        let b = point_at(times, values, false, j);
+    for j in p.start + 1..p.end {
+        let a = point_at(ends, false, j - 1);
+        let b = point_at(ends, false, j);
         let l = through(a, b);
-        put(ps, qs, ds, n, l);
-        n += 1;
-        j += 1;
+        put(ps, qs, ds, at + (j - p.start - 1), l);
     }
-    n
+    at + (p.end - p.start - 1)
 }
 
 // The corners in corner order, and their number.
 pub fn list_corners(
-    up_times: &[u32],
-    up_values: &[i32],
-    down_times: &[u32],
-    down_values: &[i32],
+    up: &[End],
+    down: &[End],
     x: Polygon,
     ps: &mut [i64],
     qs: &mut [i64],
     ds: &mut [i64],
 ) -> usize
-    requires { (Shape x (chain up_times.now up_values.now) (chain down_times.now down_values.now)) × (ProperCorners (chain up_times.now up_values.now) (chain down_times.now down_values.now) x) × (RowRoom (points x) ps.old qs.old ds.old) }
-    ensures { CornersListed (chain up_times.now up_values.now) (chain down_times.now down_values.now) x ps.old qs.old ds.old ps.new qs.new ds.new result }
+    requires { (Shape x (chain_of up.now) (chain_of down.now)) × (ProperCorners (chain_of up.now) (chain_of down.now) x) × (RowRoom (points x) ps.old qs.old ds.old) }
+    ensures { CornersListed (chain_of up.now) (chain_of down.now) x ps.old qs.old ds.old ps.new qs.new ds.new result }
 {
-    let slow = x.slow;
-    let fast = x.fast;
-    put(ps, qs, ds, 0, slow);
-    if steeper(slow, fast) {
-        let upper = x.upper;
-        let lower = x.lower;
-        let a = upper.start;
-        let b = upper.end;
-        let m = list_chain(up_times, up_values, a, b, ps, qs, ds, 1);
-        put(ps, qs, ds, m, fast);
-        let c = lower.start;
-        let e = lower.end;
-        list_chain(down_times, down_values, c, e, ps, qs, ds, m + 1)
+    put(ps, qs, ds, 0, x.slow);
+    if steeper(x.slow, x.fast) {
+        let m = list_chain(up, x.upper, ps, qs, ds, 1);
+        put(ps, qs, ds, m, x.fast);
+        list_chain(down, x.lower, ps, qs, ds, m + 1)
     } else {
         1
     }

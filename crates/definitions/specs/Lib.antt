@@ -26,3 +26,4 @@ pub mod Report
 pub mod Panels
 pub mod PanelCalls
 pub mod Cases
+pub mod Refusals

@@ -3,6 +3,7 @@
 
 pub mod entries; // entries.rt: an entry of a panel
 pub mod limits; // limits.rt: the spans and the rooms of slices
+pub mod refusals; // refusals.rt: the cases of the table of refusals, each with its number
 
 ghost use Rattle.std.specs.Prelude.{◌≡◌};
 

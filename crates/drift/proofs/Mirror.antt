@@ -4,43 +4,29 @@
 --                                trace negated, −p, −q and the same d, and its fast line the slow one; the zeros of an open segment stay (`mirrored_numbers`)
 --
 -- Assumes nothing.
-use Rattle.std.specs.Prelude.{◌≡◌, ℕ, ◌<◌, ℤ, length, get_or}
+use Rattle.definitions.specs.declared.refusals.Refusal.{Refusal}
+use Rattle.std.specs.Prelude.{◌≡◌, ℕ, ◌<◌, get_or}
 use Rattle.std.proofs.Math.Path.{sym, ap}
-use Rattle.std.proofs.Common.{◌∙◌, subst, arith}
-use mathlib.Core.List.{List, [], map}
-use Rattle.std.proofs.lemmas.List.{length-map}
+use Rattle.std.proofs.Common.{◌∙◌, subst, Ok, Result}
+use mathlib.Core.List.{[], map}
 use Rattle.std.proofs.Math.ListN.{get_or-map}
-use Rattle.definitions.specs.Spans.{segment_room, corner_room}
+use Rattle.definitions.specs.Spans.{segment_room}
 use Rattle.definitions.specs.Services.{Service}
 use Rattle.definitions.specs.Ranges.{Lists, ranges_of}
-use Rattle.definitions.specs.Corners.{corners}
 use Rattle.definitions.specs.Results.{segment_of, segments_of, numbers_of}
 use Rattle.definitions.specs.Answers.{accepted, ◌>>=◌}
 use Rattle.definitions.specs.Trial.{too_short}
-use Rattle.definitions.specs.Calls.{segment_call}
 use Rattle.definitions.specs.Mirrors.{mirrored_lists, mirrored_service, mirrored_outlook, mirrored_segment, mirrored_numbers}
-use Rattle.trial_laws.specs.Rows.{refused_not_accepted}
-use Rattle.trial_laws.specs.CallLaws.{accepted-is, then-then, then_same}
-use Rattle.lines.specs.Mirrored.{mirrored}
-use Rattle.lines.specs.MirroredCorners.{TurnedRing}
-use Rattle.lines.proofs.MirroredCorners.{corners_mirrored}
-use Rattle.drift.specs.declared.SegmentAnswer.{SegmentAnswer}
-use Rattle.drift.specs.declared.SegmentAnswer.TheVariants.{Accepted, Refused}
-use Rattle.drift.specs.declared.CornersAnswer.{CornersAnswer}
-use Rattle.drift.specs.declared.CornersAnswer.TheVariants as corners-answer
-use Rattle.drift.specs.declared.CornersAnswer.TheVariants.{Corners, Open}
+use Rattle.trial_laws.specs.CallLaws.{accepted-is}
 use Rattle.drift.specs.Columns.{Columns, lengths, row_at}
 use Rattle.drift.specs.SegmentPromise.{segment_meaning, SegmentPromise}
 use Rattle.drift.specs.GivenColumns.{called, row-at}
-use Rattle.drift.specs.CornersPromise.{corner_count, corners_meaning, three_lengths, CornersPromise}
-use Rattle.drift.specs.GivenLines.{given_lines}
-use Rattle.drift.specs.CornerTheorems.{given_corners, given_about}
-use Rattle.drift.specs.MirroredCalls.{segment_call_mirrored, numbers-mirrored, running-mirrored, corner_count_mirrored}
+use Rattle.drift.specs.MirroredCalls.{segment_call_mirrored, numbers-mirrored}
 use Rattle.drift.specs.Mirror.{accepted-only, segment_mirrored}
 
 module _ {v : Service} {ls : Lists} {old new old' new' : Columns} where
   -- both accepted
-  row_mirrored : {n : ℕ} → SegmentPromise v ls old new (Accepted n) → SegmentPromise (mirrored_service v) (mirrored_lists ls) old' new' (Accepted n)
+  row_mirrored : {n : ℕ} → SegmentPromise v ls old new (Ok n) → SegmentPromise (mirrored_service v) (mirrored_lists ls) old' new' (Ok n)
       → too_short segment_room (lengths old') ≡ too_short segment_room (lengths old) → (j : ℕ) → j < n → row_at new' j ≡ mirrored_numbers (row_at new j)
   unfolding ◌>>=◌ segment_of mirrored_segment mirrored_outlook
   row_mirrored promise image alike j h =
@@ -53,7 +39,7 @@ module _ {v : Service} {ls : Lists} {old new old' new' : Columns} where
       ∙ numbers-mirrored (get_or ss j past)
       ∙ ap mirrored_numbers (sym (row-at promise j h))
 
-  module _ {answer answer' : SegmentAnswer} (promise : SegmentPromise v ls old new answer) (image : SegmentPromise (mirrored_service v) (mirrored_lists ls) old' new' answer')
+  module _ {answer answer' : Result ℕ Refusal} (promise : SegmentPromise v ls old new answer) (image : SegmentPromise (mirrored_service v) (mirrored_lists ls) old' new' answer')
       (alike : too_short segment_room (lengths old') ≡ too_short segment_room (lengths old)) where
     pub rows_mirrored : {n : ℕ} → segment_meaning answer ≡ accepted n → (j : ℕ) → j < n → row_at new' j ≡ mirrored_numbers (row_at new j)
     rows_mirrored {n} e =

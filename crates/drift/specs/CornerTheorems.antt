@@ -18,7 +18,8 @@
 --     refused_kept               the slices hold their old contents
 --
 -- Assumes nothing.
-use Rattle.std.specs.Prelude.{◌≡◌, ◌↔◌, ℕ, ◌*◌, ◌≤◌, ℤ, length, drop}
+use Rattle.definitions.specs.declared.refusals.Refusal.{Refusal}
+use Rattle.std.specs.Prelude.{◌≡◌, ◌↔◌, ℕ, ◌*◌, ◌≤◌, ℤ, length, drop, Err, None, Ok, Option, Result, Some}
 use Rattle.std.proofs.Math.Path.{refl, ap}
 use Rattle.std.proofs.Common.{sym, ◌∙◌, subst, arith}
 use mathlib.Core.List.{List, [], ◌∷◌, Nodup}
@@ -39,15 +40,14 @@ use Rattle.splits.specs.Runs.{FrontOf}
 use Rattle.lines.specs.Theorems.{corners_exact, corners_ordered, corners_once, corners_count, corners_fit, corners_mean}
 use Rattle.lines.proofs.Theorems.{corners_by_diagonal, one_range_no_corner}
 use Rattle.lines.specs.Diagonal.{ByDiagonal}
-use Rattle.drift.specs.declared.CornersAnswer.{CornersAnswer}
-use Rattle.drift.specs.declared.CornersAnswer.TheVariants.{Corners, Open, Refused}
 use Rattle.drift.specs.RunningSegment.{segment_front, running_ordered, running_short, running_good}
 use Rattle.drift.specs.GivenLines.{given_lines, LinesFilled, lines_given, lines_past, lines_kept, lines_none, corners_about}
+use Rattle.definitions.specs.Refusals.{refusal_number}
 use Rattle.drift.specs.CornersPromise.{unbounded, corner_count, count_of, corners_meaning, three_lengths, CornersPromise}
 
 -- ---- the call
 
-slices : {k : ℕ} {ls : Lists} {ps qs ds ps' qs' ds' : List ℤ} {answer : CornersAnswer} → CornersPromise k ls ps qs ds ps' qs' ds' answer → LinesFilled (corners_call (three_lengths ps qs ds) k ls) corners_in ps qs ds ps' qs' ds'
+slices : {k : ℕ} {ls : Lists} {ps qs ds ps' qs' ds' : List ℤ} {answer : Result (Option ℕ) Refusal} → CornersPromise k ls ps qs ds ps' qs' ds' answer → LinesFilled (corners_call (three_lengths ps qs ds) k ls) corners_in ps qs ds ps' qs' ds'
 slices promise = record { ps_are = promise.ps_are; qs_are = promise.qs_are; ds_are = promise.ds_are }
 
 answered : (ns : List ℕ) (k : ℕ) (ls : Lists) (fit : Fit) → corners_call ns k ls ≡ accepted fit → (firstRow (corner_rows ns k ls) ≡ accepted tt) × (fit_of (running_after k (ranges_of ls)) ≡ fit)
@@ -84,7 +84,7 @@ uncounted (bounded ks) e = let z : ◌≡◌ {A = ℕ} 0 1 = cc in absurd (omega
 
 -- ---- the number of corners
 
-module _ {k : ℕ} {ls : Lists} {ps qs ds ps' qs' ds' : List ℤ} {n : ℕ} (promise : CornersPromise k ls ps qs ds ps' qs' ds' (Corners n)) where
+module _ {k : ℕ} {ls : Lists} {ps qs ds ps' qs' ds' : List ℤ} {n : ℕ} (promise : CornersPromise k ls ps qs ds ps' qs' ds' (Ok (Some n))) where
   abbrev ns : List ℕ
   ns = three_lengths ps qs ds
 
@@ -155,7 +155,7 @@ one_none [] e = absurd (omega (arith, e))
 one_none (r ∷ []) e = one_range_no_corner r
 one_none (r ∷ s ∷ rs) e = absurd (omega (arith, e))
 
-module _ {k : ℕ} {ls : Lists} {ps qs ds ps' qs' ds' : List ℤ} (promise : CornersPromise k ls ps qs ds ps' qs' ds' Open) where
+module _ {k : ℕ} {ls : Lists} {ps qs ds ps' qs' ds' : List ℤ} (promise : CornersPromise k ls ps qs ds ps' qs' ds' (Ok None)) where
   found_open : corners_call (three_lengths ps qs ds) k ls ≡ accepted open_strip
   unfolding corners_meaning
   found_open =
@@ -180,10 +180,10 @@ module _ {k : ℕ} {ls : Lists} {ps qs ds ps' qs' ds' : List ℤ} (promise : Cor
 
 -- ---- refused
 
-module _ {k : ℕ} {ls : Lists} {ps qs ds ps' qs' ds' : List ℤ} {e : ℕ} (promise : CornersPromise k ls ps qs ds ps' qs' ds' (Refused e)) where
-  found_refused : corners_call (three_lengths ps qs ds) k ls ≡ refused e
+module _ {k : ℕ} {ls : Lists} {ps qs ds ps' qs' ds' : List ℤ} {e : Refusal} (promise : CornersPromise k ls ps qs ds ps' qs' ds' (Err e)) where
+  found_refused : corners_call (three_lengths ps qs ds) k ls ≡ refused (refusal_number e)
   unfolding corners_meaning
-  found_refused = bind-refused (corners_call (three_lengths ps qs ds) k ls) count_of e (sym promise.answer_is)
+  found_refused = bind-refused (corners_call (three_lengths ps qs ds) k ls) count_of (refusal_number e) (sym promise.answer_is)
 
   pub refused_kept : (ps' ≡ ps) × (qs' ≡ qs) × (ds' ≡ ds)
   refused_kept = lines_kept (slices promise) found_refused

@@ -7,7 +7,7 @@
 --     promise_corners      none holds, it has two ranges or more, and its corners stand first
 --
 -- Assumes nothing.
-use Rattle.std.specs.Prelude.{ℕ, ◌≤◌, ◌<◌, ◌+◌, ◌≡◌, Bool, true, false, ◌||◌, ltb, eqb, ℤ, length}
+use Rattle.std.specs.Prelude.{ℕ, ◌≤◌, ◌<◌, ◌+◌, ◌≡◌, Bool, true, false, ◌||◌, ltb, eqb, ℤ, length, Err, None, Ok, Some}
 use Rattle.std.proofs.Common.{sym, ◌∙◌, arith, ltb-false}
 use Rattle.std.proofs.Math.Path.{ap}
 use mathlib.Core.List.{List, [], ◌++◌, map}
@@ -21,6 +21,8 @@ use Rattle.definitions.specs.Lines.{Line}
 use Rattle.definitions.specs.Corners.{corners}
 use Rattle.definitions.specs.Segments.{running_after}
 use Rattle.definitions.specs.Answers.{Answer, refused, accepted, ◌>>=◌, firstRow, filled}
+use Rattle.definitions.specs.Refusals.{refusal_number}
+use Rattle.definitions.specs.declared.refusals.Refusal.{Refusal}
 use Rattle.definitions.specs.Trial.{too_short, corner_rows}
 use Rattle.definitions.specs.Calls.{Fit, open_strip, bounded, fit_of, corners_in, corners_call}
 use Rattle.trial_laws.specs.Rows.{row-holds, row-passes}
@@ -29,7 +31,6 @@ use Rattle.trial_laws.specs.Accepted.{AcceptedLists}
 use Rattle.drift_laws.specs.ChainParts.{Chain}
 use Rattle.drift_laws.specs.LineRows.{RowRoom}
 use Rattle.drift_laws.specs.RunsByPlace.{run, run_one, run_two}
-use Rattle.drift.specs.declared.CornersAnswer.TheVariants.{Corners, Open, Refused}
 use Rattle.fit.specs.declared.last_run.Found.{Found}
 use Rattle.fit.specs.LastRuns.{LastRun}
 use Rattle.corner_list.specs.RunCorners.{RunCorners}
@@ -88,7 +89,7 @@ module _ (k : ℕ) (ls : Lists) where
     abbrev ns : List ℕ
     ns = three_lengths ps qs ds
 
-    pub promise_refused : (e : ℕ) → firstRow (corner_rows ns k ls) ≡ refused e → CornersPromise k ls ps qs ds ps qs ds (Refused e)
+    pub promise_refused : (e : Refusal) → firstRow (corner_rows ns k ls) ≡ refused (refusal_number e) → CornersPromise k ls ps qs ds ps qs ds (Err e)
     unfolding corners_meaning ◌>>=◌ filled
     promise_refused e f =
         record {
@@ -99,7 +100,7 @@ module _ (k : ℕ) (ls : Lists) where
         }
 
     module _ (f : firstRow (corner_rows ns k ls) ≡ accepted tt) {up down : Chain} {r : Found} (a : AcceptedLists ls) (within : k ≤ length ls.times) (z : LastRun ls k up down r) where
-      pub promise_open : k < r.start + 2 → CornersPromise k ls ps qs ds ps qs ds Open
+      pub promise_open : k < r.start + 2 → CornersPromise k ls ps qs ds ps qs ds (Ok None)
       unfolding corners_meaning count_of corners_in ◌>>=◌ filled
       promise_open h =
           let e = passed ns f (fit_open a k within z h) in
@@ -116,13 +117,13 @@ module _ (k : ℕ) (ls : Lists) where
       unfolding corners_in filled
       slice_filled number ks old g e = g ∙ ap (λ n. map number ks ++ drop n old) (sym (length-map ks number)) ∙ ap (λ x. filled x (λ fit. map number (corners_in fit)) old) e
 
-      pub promise_corners : r.start + 2 ≤ k → {ps' qs' ds' : List ℤ} (n : ℕ) → RunCorners ls r.start k ps qs ds ps' qs' ds' n → CornersPromise k ls ps qs ds ps' qs' ds' (Corners n)
+      pub promise_corners : r.start + 2 ≤ k → {ps' qs' ds' : List ℤ} (n : ℕ) → RunCorners ls r.start k ps qs ds ps' qs' ds' n → CornersPromise k ls ps qs ds ps' qs' ds' (Ok (Some n))
       unfolding corners_meaning count_of ◌>>=◌
       promise_corners h n c =
           let e = passed ns f (fit_bounded a k within z h) in
           let ks = corners (run ls r.start k) in
           record {
-            answer_is = ap (λ m. corners_meaning (Corners m)) c.count ∙ ap (λ x. x >>= λ fit. accepted (count_of fit)) e;
+            answer_is = ap (λ m. corners_meaning (Ok (Some m))) c.count ∙ ap (λ x. x >>= λ fit. accepted (count_of fit)) e;
             ps_are = slice_filled (λ l. l.p) ks ps c.rows.p_is e;
             qs_are = slice_filled (λ l. l.q) ks qs c.rows.q_is e;
             ds_are = slice_filled (λ l. l.d) ks ds c.rows.d_is e;

@@ -11,7 +11,7 @@
 --
 -- Runs are counted from 0.
 -- Assumes nothing.
-use Rattle.std.specs.Prelude.{◌≡◌, length, get_or, take}
+use Rattle.std.specs.Prelude.{◌≡◌, length, get_or, take, Ok}
 use Rattle.std.proofs.Math.Path.{refl, sym, ap, ap₂}
 use Rattle.std.proofs.Common.{◌∙◌, subst, arith, take-suc, take_all}
 use mathlib.Core.List.{List, [], ◌∷◌, ◌++◌}
@@ -28,7 +28,6 @@ use Rattle.splits.specs.OrderedRanges.{first_time_of, last_time_of}
 use Rattle.splits.specs.RunTimes.{in_span}
 use Rattle.splits.specs.Segments.{TwoWithout, segment-first_time, segment-last_time, segments_of-at}
 use Rattle.lines.specs.Theorems.{segments_split, segments_ranges, segments_ahead, segments_fewest, segments_close}
-use Rattle.drift.specs.declared.SegmentAnswer.TheVariants.{Accepted}
 use Rattle.drift.specs.Columns.{Columns}
 use Rattle.drift.specs.SegmentPromise.{SegmentPromise}
 use Rattle.drift.specs.GivenColumns.{ordered, count-is, column_at}
@@ -43,7 +42,7 @@ unfoldable pub given_runs : Lists → Columns → ℕ → List (List Range)
 given_runs ls new zero = []
 given_runs ls new (suc n) = given_runs ls new n ++ (given_run ls new n ∷ [])
 
-module _ {v : Service} {ls : Lists} {old new : Columns} {n : ℕ} (promise : SegmentPromise v ls old new (Accepted n)) where
+module _ {v : Service} {ls : Lists} {old new : Columns} {n : ℕ} (promise : SegmentPromise v ls old new (Ok n)) where
   abbrev rs : List Range
   rs = ranges_of ls
 

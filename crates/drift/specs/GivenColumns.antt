@@ -6,7 +6,7 @@
 --     rows_room, row-at      there is a row for each segment: its numbers
 --
 -- Assumes nothing.
-use Rattle.std.specs.Prelude.{◌≡◌, refl, ℕ, zero, suc, ◌<◌, ◌≤◌, length, get_or, drop}
+use Rattle.std.specs.Prelude.{◌≡◌, refl, ℕ, zero, suc, ◌<◌, ◌≤◌, length, get_or, drop, Ok}
 use Rattle.std.proofs.Common.{sym, ◌∙◌, arith, length-append}
 use Rattle.std.proofs.Math.Path.{ap}
 use mathlib.Core.List.{List, [], ◌∷◌, ◌++◌, map}
@@ -23,7 +23,6 @@ use Rattle.definitions.specs.Calls.{segment_call}
 use Rattle.trial_laws.specs.Rows.{first_row-accepted}
 use Rattle.trial_laws.specs.CallLaws.{both-accepted, call-accepted, accepted-is}
 use Rattle.trial_laws.specs.Accepted.{GoodService, AcceptedLists, segment-accepted}
-use Rattle.drift.specs.declared.SegmentAnswer.TheVariants.{Accepted}
 use Rattle.drift.specs.Columns.{Columns, each, each-apply, lengths, row_at, row_is, Room}
 use Rattle.drift.specs.SegmentPromise.{segment_meaning, SegmentPromise}
 
@@ -35,7 +34,7 @@ get_d_other (x ∷ l) (suc j) a b h = get_d_other l j a b (omega arith)
 
 -- ---- the slices
 
-module _ {v : Service} {ls : Lists} {old new : Columns} {n : ℕ} (promise : SegmentPromise v ls old new (Accepted n)) where
+module _ {v : Service} {ls : Lists} {old new : Columns} {n : ℕ} (promise : SegmentPromise v ls old new (Ok n)) where
   abbrev rs : List Range
   rs = ranges_of ls
 

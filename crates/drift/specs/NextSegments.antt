@@ -27,7 +27,8 @@ use Rattle.drift_laws.specs.RunsByPlace.{run, run_one, run_two, run_more, run_re
 use Rattle.fit.specs.declared.run.Reach.{Reach}
 use Rattle.values.specs.Meanings.{line_of}
 use Rattle.values.specs.Reach.{look_ahead}
-use Rattle.fit.specs.RunsFrom.{RunFrom}
+use Rattle.fit.specs.declared.polygon.Polygon.{Polygon}
+use Rattle.fit.specs.RunsFrom.{RunFrom, PolygonAt}
 use Rattle.fit.specs.RunOutlooks.{run_last, run_outlook}
 use Rattle.drift.specs.Filling.{NextSegment}
 
@@ -90,10 +91,10 @@ module _ {ls : Lists} (a : AcceptedLists ls) {i : ℕ} {up down : Chain} {r : Re
       (ap (λ k. segment_of v (run ls i k)) e ∙ ap (segment_of v) (run_one ls a i (omega arith)) ∙ λ j. record { first_time = (range_at ls i).time; last_time = (range_at ls (sym last j)).time; count = sym one j; outlook = open_strip })
       refl
 
-  pub next_lines : GoodService v → i + 2 ≤ r.end
-      → NextSegment v ls i (found_at ls i r.end (look_ahead (line_of r.polygon.slow) (line_of r.polygon.fast) v (range_at ls (r.end - 1)).time))
+  pub next_lines : GoodService v → {x : Polygon} → i + 2 ≤ r.end → PolygonAt ls up down i r.end x
+      → NextSegment v ls i (found_at ls i r.end (look_ahead (line_of x.slow) (line_of x.fast) v (range_at ls (r.end - 1)).time))
   unfolding segment_of end_time
-  next_lines good h =
+  next_lines good h z =
       let run_is = run_two ls a i r.end h f.within in
       let n : length (run ls i r.end) ≡ r.end - i = run_long ls a i r.end f.begins f.within in
       next_is ls a i r.end f.begins f.within f.line f.closed v _
@@ -102,6 +103,6 @@ module _ {ls : Lists} (a : AcceptedLists ls) {i : ℕ} {up down : Chain} {r : Re
         first_time = (range_at ls i).time;
         last_time = run_last a (le_refl _) f h j;
         count = (ap length (sym run_is) ∙ n) j;
-        outlook = (ap (outlook v) (sym run_is) ∙ run_outlook a (le_refl _) f h v good) j;
+        outlook = (ap (outlook v) (sym run_is) ∙ run_outlook a (le_refl _) f h v good z) j;
       })
       refl

@@ -17,7 +17,7 @@
 --
 -- Runs are counted from 0. Example: `(given_lines_is promise j h two).means.fast_greatest m f` says of any line m of the j-th fit that its slope is not above that of the fast line given.
 -- Assumes nothing.
-use Rattle.std.specs.Prelude.{◌≡◌, refl, ◌↔◌, List, [], ◌∷◌, ℕ, ◌≤◌, ◌<◌, pos, get_or, ◌<ℤ◌}
+use Rattle.std.specs.Prelude.{◌≡◌, refl, ◌↔◌, List, [], ◌∷◌, ℕ, ◌≤◌, ◌<◌, pos, get_or, ◌<ℤ◌, Ok}
 use Rattle.std.proofs.Common.{sym, ◌∙◌, arith}
 use Rattle.std.proofs.Math.Path.{ap, subst}
 use Rattle.std.proofs.Math.ListN.{length}
@@ -41,7 +41,6 @@ use Rattle.lines.specs.RunOutlook.{OutlookMeans, every-second}
 use Rattle.lines.proofs.RunOutlook.{outlook-means}
 use Rattle.lines.specs.Theorems.{segments_split}
 use Rattle.trial_laws.specs.Accepted.{GoodService}
-use Rattle.drift.specs.declared.SegmentAnswer.TheVariants.{Accepted}
 use Rattle.drift.specs.Columns.{Columns, row_at}
 use Rattle.drift.specs.SegmentPromise.{SegmentPromise}
 use Rattle.drift.specs.GivenColumns.{taken_good, ordered, row-at}
@@ -103,7 +102,7 @@ none-iff (at t) (least_at u a b p f) = (λ e. absurd (omega arith), λ k. absurd
 
 -- ---- the slices
 
-module _ {v : Service} {ls : Lists} {old new : Columns} {n : ℕ} (promise : SegmentPromise v ls old new (Accepted n)) (j : ℕ) (h : j < n) where
+module _ {v : Service} {ls : Lists} {old new : Columns} {n : ℕ} (promise : SegmentPromise v ls old new (Ok n)) (j : ℕ) (h : j < n) where
   abbrev segment : List Range
   segment = get_or (segments (ranges_of ls)) j []
 

@@ -5,7 +5,8 @@
 --     segment-accepted, corners_accepted     accepted, with the number of segments, with what is told of the fit, exactly if no row holds
 --
 -- Assumes nothing.
-use Rattle.std.specs.Prelude.{◌≡◌, ◌↔◌, List, ℕ, ℤ}
+use Rattle.definitions.specs.declared.refusals.Refusal.{Refusal}
+use Rattle.std.specs.Prelude.{◌≡◌, ◌↔◌, List, ℕ, ℤ, Option, Result}
 use Rattle.std.proofs.Math.Path.{ap}
 use Rattle.std.proofs.Common.{◌∙◌}
 use Rattle.std.proofs.Math.ListN.{length}
@@ -21,13 +22,11 @@ use Rattle.trial_laws.specs.Rows.{NoneHolds, FirstAt}
 use Rattle.trial_laws.specs.CallLaws.{told_refused, told_accepted}
 use Rattle.trial_laws.specs.ListTrial.{segment_trial, bad-refused}
 use Rattle.trial_laws.specs.Accepted.{GoodService, service-bad}
-use Rattle.drift.specs.declared.SegmentAnswer.{SegmentAnswer}
-use Rattle.drift.specs.declared.CornersAnswer.{CornersAnswer}
 use Rattle.drift.specs.Columns.{Columns, lengths}
 use Rattle.drift.specs.SegmentPromise.{segment_meaning, SegmentPromise}
 use Rattle.drift.specs.CornersPromise.{count_of, corners_meaning, three_lengths, CornersPromise}
 
-module _ {v : Service} {ls : Lists} {old new : Columns} {answer : SegmentAnswer} (promise : SegmentPromise v ls old new answer) where
+module _ {v : Service} {ls : Lists} {old new : Columns} {answer : Result ℕ Refusal} (promise : SegmentPromise v ls old new answer) where
   pub segment_refused : (n : ℕ) → (segment_meaning answer ≡ refused n) ↔ FirstAt n (segment_rows (lengths old) v ls)
   unfolding segment_call
   segment_refused = told_refused (segment_rows (lengths old) v ls) (segments_of v (ranges_of ls)) length promise.answer_is
@@ -42,7 +41,7 @@ module _ {v : Service} {ls : Lists} {old new : Columns} {answer : SegmentAnswer}
   unfolding segment_call
   segment-accepted = told_accepted (segment_rows (lengths old) v ls) (segments_of v (ranges_of ls)) length promise.answer_is
 
-module _ {k : ℕ} {ls : Lists} {ps qs ds ps' qs' ds' : List ℤ} {answer : CornersAnswer} (promise : CornersPromise k ls ps qs ds ps' qs' ds' answer) where
+module _ {k : ℕ} {ls : Lists} {ps qs ds ps' qs' ds' : List ℤ} {answer : Result (Option ℕ) Refusal} (promise : CornersPromise k ls ps qs ds ps' qs' ds' answer) where
   abbrev rows : List Row
   rows = corner_rows (three_lengths ps qs ds) k ls
 

@@ -4,7 +4,7 @@
 --     promise_accepted       by the number of segments, with all of them filled in, where no row holds
 --
 -- Assumes nothing.
-use Rattle.std.specs.Prelude.{ℕ, ◌≡◌, length}
+use Rattle.std.specs.Prelude.{ℕ, ◌≡◌, length, Err, Ok}
 use Rattle.std.proofs.Math.Path.{sym, ap}
 use Rattle.std.proofs.Common.{◌∙◌}
 use mathlib.Core.List.{List, ◌++◌, map, map-map}
@@ -14,9 +14,10 @@ use Rattle.definitions.specs.Services.{Service}
 use Rattle.definitions.specs.Ranges.{Lists, ranges_of}
 use Rattle.definitions.specs.Results.{Numbers, Segment, numbers_of, segments_of}
 use Rattle.definitions.specs.Answers.{Answer, refused, accepted, ◌>>=◌, firstRow, filled}
+use Rattle.definitions.specs.Refusals.{refusal_number}
+use Rattle.definitions.specs.declared.refusals.Refusal.{Refusal}
 use Rattle.definitions.specs.Trial.{segment_rows}
 use Rattle.definitions.specs.Calls.{segment_call}
-use Rattle.drift.specs.declared.SegmentAnswer.TheVariants.{Accepted, Refused}
 use Rattle.drift.specs.Columns.{Columns, each, each-apply, lengths, AllStored}
 use Rattle.drift.specs.SegmentPromise.{segment_meaning, SegmentPromise}
 
@@ -25,7 +26,7 @@ module _ (v : Service) (ls : Lists) where
   unfolding segment_call
   called ns e = ap (λ a. a >>= λ ok. accepted (segments_of v (ranges_of ls))) (sym e)
 
-  pub promise_refused : (cs : Columns) (e : ℕ) → firstRow (segment_rows (lengths cs) v ls) ≡ refused e → SegmentPromise v ls cs cs (Refused e)
+  pub promise_refused : (cs : Columns) (e : Refusal) → firstRow (segment_rows (lengths cs) v ls) ≡ refused (refusal_number e) → SegmentPromise v ls cs cs (Err e)
   unfolding segment_meaning ◌>>=◌ filled
   promise_refused cs e f =
       record {
@@ -42,7 +43,7 @@ module _ (v : Service) (ls : Lists) where
       ∙ ap (λ l. l ++ drop (length (map numbers_of ss)) old) (map-map number numbers_of ss)
       ∙ ap (λ n. map (λ s. number (numbers_of s)) ss ++ drop n old) (length-map ss numbers_of ∙ sym (length-map ss (λ s. number (numbers_of s))))
 
-  pub promise_accepted : {old new : Columns} (n : ℕ) → firstRow (segment_rows (lengths old) v ls) ≡ accepted tt → AllStored n (segments_of v (ranges_of ls)) old new → SegmentPromise v ls old new (Accepted n)
+  pub promise_accepted : {old new : Columns} (n : ℕ) → firstRow (segment_rows (lengths old) v ls) ≡ accepted tt → AllStored n (segments_of v (ranges_of ls)) old new → SegmentPromise v ls old new (Ok n)
   unfolding segment_meaning ◌>>=◌
   promise_accepted {old} {new} n f stored =
       record {

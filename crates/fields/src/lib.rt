@@ -6,4 +6,6 @@
 pub mod front; // front.rt: the tag, the length and the body of the field at the front of some bytes
 pub mod numbers; // numbers.rt: the numbers of a body, read and written
 pub mod parts; // parts.rt: parts of a slice, with the slice and the position as parameters
+pub mod places; // places.rt: a value put at a place of a slice
 pub mod reader; // reader.rt: the reader that carries the unread rest
+pub mod tags; // tags.rt: the tags of a file's fields

@@ -6,18 +6,14 @@ ghost use Rattle.fields.specs.Places.{place_in};
 pub fn byte_at(s: &[u8], at: usize) -> u8
     ensures { result ≡ get_or s.now at 0 }
 {
-    if at < s.len() { s[at] } else { 0 }
+    s.get(at).copied().unwrap_or(0)
 }
 
 // What is left of s after its first `at` bytes; past the end, nothing.
 pub fn tail(s: &[u8], at: usize) -> &[u8]
     ensures { (result.now ≡ drop at s.now) × (result.ref_ptr ≡ place_in s.entry at) }
 {
-    let n = s.len();
-    if at <= n {
-        return &s[at..];
-    }
-    &s[n..]
+    &s[at.min(s.len())..]
 }
 
 // `len` bytes of s from `at`, or as many as there are.
@@ -25,8 +21,5 @@ pub fn part(s: &[u8], at: usize, len: usize) -> &[u8]
     ensures { (result.now ≡ take len (drop at s.now)) × (result.ref_ptr ≡ place_in s.entry at) }
 {
     let rest = tail(s, at);
-    if len <= rest.len() {
-        return &rest[..len];
-    }
-    rest
+    &rest[..len.min(rest.len())]
 }

@@ -3,7 +3,7 @@
 --     run_joined                 a run is its front and the run behind it
 --     Reached ls k i             the segment running after k ranges is the last of those of the ranges from i up to k
 --     reached_first, reached_next   so it is at the first range, and at the end of each run that ends before k
---     LastRun ls k up down r     the segment running after k ranges goes from `start` to k; it has a line, and `polygon` is its polygon if it has two ranges or more
+--     LastRun ls k up down r     the segment running after k ranges goes from `start` to k; it has a line, and `polygon` is its polygon if it has two ranges or more, and none if it has one
 --     reached_last               so it is where the run goes up to k
 --
 -- Assumes nothing.
@@ -28,13 +28,13 @@ use Rattle.drift_laws.specs.ChainParts.{Chain}
 use Rattle.drift_laws.specs.RunsByPlace.{run, run_more, run_length, run_rest, run_ordered}
 use Rattle.fit.specs.declared.run.Reach.{Reach}
 use Rattle.fit.specs.declared.last_run.Found.{Found}
-use Rattle.fit.specs.RunsFrom.{RunFrom, PolygonAt}
+use Rattle.fit.specs.RunsFrom.{RunFrom, PolygonOf}
 
 pub record LastRun (ls : Lists) (k : ℕ) (up down : Chain) (r : Found) : Type 0 where
   pub begins : r.start < k
   pub running_is : running_after k (ranges_of ls) ≡ run ls r.start k
   pub line : HasLine (run ls r.start k)
-  pub polygon_is : r.start + 2 ≤ k → PolygonAt ls up down r.start k r.polygon
+  pub polygon_is : PolygonOf ls up down r.start k r.polygon
 
 pub record Reached (ls : Lists) (k i : ℕ) : Type 0 where
   pub before : i < k
@@ -97,5 +97,5 @@ module _ {ls : Lists} (a : AcceptedLists ls) (k : ℕ) (within : k ≤ length ls
         begins = z.before;
         running_is = z.running_from ∙ only r h;
         line = subst (λ e. HasLine (run ls i e)) e r.line;
-        polygon_is = λ two. subst (λ e. PolygonAt ls up down i e f.polygon) e (r.polygon_is (omega arith));
+        polygon_is = subst (λ e. PolygonOf ls up down i e f.polygon) e r.polygon_is;
       }

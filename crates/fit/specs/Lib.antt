@@ -1,3 +1,4 @@
+pub mod ChainsOfEnds
 pub mod RangesByValue
 pub mod LinesOfEnds
 pub mod Polygons

@@ -23,7 +23,8 @@ use Rattle.drift_laws.specs.RunsByPlace.{run, run_two, run_more, run_ordered}
 use Rattle.values.specs.Meanings.{line_of}
 use Rattle.values.specs.Reach.{look_ahead}
 use Rattle.fit.specs.declared.run.Reach.{Reach}
-use Rattle.fit.specs.RunsFrom.{RunFrom}
+use Rattle.fit.specs.declared.polygon.Polygon.{Polygon}
+use Rattle.fit.specs.RunsFrom.{RunFrom, PolygonAt}
 
 module _ {ls : Lists} (a : AcceptedLists ls) {i n : ℕ} (upto : n ≤ length ls.times) {up down : Chain} {r : Reach} (f : RunFrom ls i n up down r) (two : i + 2 ≤ r.end) where
   run_is : run ls i r.end ≡ range_at ls i ∷ range_at ls (i + 1) ∷ run ls (i + 2) r.end
@@ -37,10 +38,9 @@ module _ {ls : Lists} (a : AcceptedLists ls) {i n : ℕ} (upto : n ≤ length ls
       let m : k + 1 ≡ r.end = omega arith in
       ap last_time_of (sym run_is ∙ ap (run ls i) (sym m) ∙ run_more ls a i k (omega arith) (omega arith)) ∙ last-append (run ls i k) (range_at ls k) []
 
-  pub run_outlook : (v : Service) → GoodService v
-      → outlook v (run ls i r.end) ≡ look_ahead (line_of r.polygon.slow) (line_of r.polygon.fast) v (range_at ls (r.end - 1)).time
-  run_outlook v good =
-      let z = f.polygon_is two in
+  pub run_outlook : (v : Service) → GoodService v → {x : Polygon} → PolygonAt ls up down i r.end x
+      → outlook v (run ls i r.end) ≡ look_ahead (line_of x.slow) (line_of x.fast) v (range_at ls (r.end - 1)).time
+  run_outlook v good z =
       let s = range_at ls i in
       let t = range_at ls (i + 1) in
       let ws = run ls (i + 2) r.end in

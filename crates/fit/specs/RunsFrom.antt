@@ -1,17 +1,19 @@
 -- The run from a range on as far as a line fits it: what code knows while it goes on, and what it promises at its end.
 --
 --     Closing slow fast w r          r tells whether the range w has no line with the run that has these two lines
---     closes_above, closes_below, closes_not   how it is told
+--     closes_above, closes_below, closes_not, closes_else   how it is told
 --     Running ls up down i k x       at k the slices and x stand for the polygon of the run from i to k, which has a line
 --     running_start, running_more    it holds after two ranges, and after each range that joins
 --     PolygonAt ls up down i e x     the slices and x stand for the polygon of the run from i to e; slow and fast are that polygon's, and small
+--     PolygonOf ls up down i e o     the run from i to e has one range and o is none, or it has more and o is its polygon
+--     polygon_some, polygon_none     so where one was found, and where none was
 --     RunFrom ls i n up down r       the run from i ends at `end`, by n: it has a line, and none with the range at `end` unless that is n. It has one range only if no other follows; else `polygon` is its polygon
 --     run_closed, run_over           the run stopped at a range that closes it, or at n
 --     run_single                     a run of the last range alone
 --
 -- Assumes nothing.
-use Rattle.std.specs.Prelude.{◌≡◌, ◌⊎◌, Bool, true, false, [], ◌∷◌, ◌++◌, ℕ, ◌+◌, ◌-◌, ◌<◌, ◌≤◌, length, pos, ◌<ℤ◌}
-use Rattle.std.proofs.Common.{sym, ◌∙◌, ap₂, subst, inl, inr, arith}
+use Rattle.std.specs.Prelude.{◌≡◌, ◌⊎◌, Bool, true, false, not, Option, None, Some, MatchOption, [], ◌∷◌, ◌++◌, ℕ, ◌+◌, ◌-◌, ◌<◌, ◌≤◌, length, pos, ◌<ℤ◌}
+use Rattle.std.proofs.Common.{refl, sym, ◌∙◌, ap₂, subst, inl, inr, arith}
 use Rattle.std.proofs.Math.Path.{ap}
 use Rattle.std.specs.Int.Signed.{le_z, lt_z}
 use Rattle.definitions.specs.Ranges.{Lists, Range as RangeTerm}
@@ -68,6 +70,11 @@ module _ (slow fast : Line) (w : Range) {e f : End} {n m : Point} (a : e ≡ hig
   pub closes_not : {over met : Bool} → over ≡ lt_z (pos 0) (gap (line_of slow) (point_of n)) → over ≡ false → met ≡ le_z (pos 0) (gap (line_of fast) (point_of m)) → met ≡ true → Closing slow fast (range_of w) false
   closes_not k o l t = record { closes = λ q. let z : ◌≡◌ {A = ℕ} 0 1 = cc in absurd (omega arith); joins = λ _. (high_told k false o, low_told l true t) }
 
+  -- where slow is not above it, the other test alone tells
+  pub closes_else : {over : Bool} → over ≡ lt_z (pos 0) (gap (line_of slow) (point_of n)) → over ≡ false → (met : Bool) → met ≡ le_z (pos 0) (gap (line_of fast) (point_of m)) → Closing slow fast (range_of w) (not met)
+  closes_else k o true l = closes_not k o l refl
+  closes_else k o false l = closes_below l refl
+
 -- ---- while the run goes on
 pub record Running (ls : Lists) (up down : Chain) (i k : ℕ) (x : Polygon) : Type 0 where
   pub is : polygon_of false up down x ≡ run_polygon ls i k
@@ -121,13 +128,22 @@ pub record PolygonAt (ls : Lists) (up down : Chain) (i e : ℕ) (x : Polygon) : 
   pub shape : Shape x up down
   pub few : Few x (e - i)
 
+pub record PolygonOf (ls : Lists) (up down : Chain) (i e : ℕ) (o : Option Polygon) : Type 0 where
+  pub found : MatchOption o (e ≡ i + 1) (λ x. (i + 2 ≤ e) × PolygonAt ls up down i e x)
+
+pub polygon_some : {ls : Lists} {up down : Chain} {i e : ℕ} {o : Option Polygon} {x : Polygon} → o ≡ Some x → PolygonOf ls up down i e o → (i + 2 ≤ e) × PolygonAt ls up down i e x
+polygon_some {ls} {up} {down} {i} {e} p z = (subst (PolygonOf ls up down i e) p z).found
+
+pub polygon_none : {ls : Lists} {up down : Chain} {i e : ℕ} {o : Option Polygon} → o ≡ None → PolygonOf ls up down i e o → e ≡ i + 1
+polygon_none {ls} {up} {down} {i} {e} p z = (subst (PolygonOf ls up down i e) p z).found
+
 pub record RunFrom (ls : Lists) (i n : ℕ) (up down : Chain) (r : Reach) : Type 0 where
   pub begins : i < r.end
   pub within : r.end ≤ n
   pub line : HasLine (run ls i r.end)
   pub closed : r.end < n → HasLine (run ls i r.end ++ (range_at ls r.end ∷ [])) → ⊥
   pub two : i + 1 < n → i + 2 ≤ r.end
-  pub polygon_is : i + 2 ≤ r.end → PolygonAt ls up down i r.end r.polygon
+  pub polygon_is : PolygonOf ls up down i r.end r.polygon
 
 module _ {ls : Lists} (a : AcceptedLists ls) where
   module _ (i k : ℕ) (lo : i + 2 ≤ k) (hi : k ≤ length ls.times) {up down : Chain} {x : Polygon} (z : Running ls up down i k x) where
@@ -158,7 +174,7 @@ module _ {ls : Lists} (a : AcceptedLists ls) where
         }
 
   module _ (i n k : ℕ) (lo : i + 2 ≤ k) (upto : n ≤ length ls.times) {up down : Chain} {x : Polygon} (z : Running ls up down i k x) where
-    pub run_closed : k < n → {w : Range} → range_of w ≡ range_at ls k → {r : Bool} → Closing x.slow x.fast (range_of w) r → r ≡ true → RunFrom ls i n up down (record { end = k; polygon = x })
+    pub run_closed : k < n → {w : Range} → range_of w ≡ range_at ls k → {r : Bool} → Closing x.slow x.fast (range_of w) r → r ≡ true → RunFrom ls i n up down (record { end = k; polygon = Some x })
     run_closed hi e c o =
         record {
           begins = omega arith;
@@ -166,10 +182,10 @@ module _ {ls : Lists} (a : AcceptedLists ls) where
           line = z.line;
           closed = λ _. stops a i k lo (omega arith) z e c o;
           two = λ _. lo;
-          polygon_is = λ _. polygon_at i k lo (omega arith) z;
+          polygon_is = record { found = (lo, polygon_at i k lo (omega arith) z) };
         }
 
-    pub run_over : k ≤ n → n ≤ k → RunFrom ls i n up down (record { end = k; polygon = x })
+    pub run_over : k ≤ n → n ≤ k → RunFrom ls i n up down (record { end = k; polygon = Some x })
     run_over le ge =
         record {
           begins = omega arith;
@@ -177,11 +193,11 @@ module _ {ls : Lists} (a : AcceptedLists ls) where
           line = z.line;
           closed = λ l. absurd (omega arith);
           two = λ _. lo;
-          polygon_is = λ _. polygon_at i k lo (omega arith) z;
+          polygon_is = record { found = (lo, polygon_at i k lo (omega arith) z) };
         }
 
-  pub run_single : (i n : ℕ) → i < n → n ≤ i + 1 → n ≤ length ls.times → {up down : Chain} (x : Polygon) → RunFrom ls i n up down (record { end = n; polygon = x })
-  run_single i n h le upto x =
+  pub run_single : (i n : ℕ) → i < n → n ≤ i + 1 → n ≤ length ls.times → {up down : Chain} → RunFrom ls i n up down (record { end = n; polygon = None })
+  run_single i n h le upto =
       let one : n ≡ i + 1 = omega arith in
       record {
         begins = h;
@@ -189,5 +205,5 @@ module _ {ls : Lists} (a : AcceptedLists ls) where
         line = subst (λ e. HasLine (run ls i e)) (sym one) (one_line ls a i (omega arith));
         closed = λ l. absurd (omega arith);
         two = λ l. absurd (omega arith);
-        polygon_is = λ l. absurd (omega arith);
+        polygon_is = record { found = one };
       }

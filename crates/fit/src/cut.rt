@@ -1,19 +1,18 @@
 // The polygon of a fit with one more range. The lower side is the upper side of the mirror image, so one cut serves both.
-ghost use Rattle.std.specs.Prelude.{◌≡◌, ◌+◌};
+ghost use Rattle.std.specs.Prelude.{◌≡◌, ◌+◌, ◌≤◌, length};
 ghost use Rattle.std.specs.Int.Signed.{lt_z};
 ghost use Rattle.integers.specs.Bounds.{Within};
 ghost use Rattle.definitions.specs.Spans.{most_value};
 ghost use Rattle.trial_laws.specs.Accepted.{ProperRange};
-ghost use Rattle.drift_laws.specs.ChainParts.{chain, Long};
 ghost use Rattle.values.specs.Small.{Bounded};
 ghost use Rattle.fit.specs.RangesByValue.{range_of};
-ghost use Rattle.fit.specs.LinesOfEnds.{neg_d};
+ghost use Rattle.fit.specs.ChainsOfEnds.{chain_of};
 ghost use Rattle.fit.specs.Polygons.{Shape};
 ghost use Rattle.fit.specs.Cuts.{shortened_to, CutAt, AboveAt, BelowAt, flipped};
 ghost use Rattle.fit.specs.Joins.{LineJoining, PointAt, JoinedAt, StartedAt, first_part};
 
 use crate::chain::{Trimmed, trim};
-use crate::ends::{End, Range, has_width, high_end, low_end, seen, store, store_range};
+use crate::ends::{End, Range, has_width, high_end, low_end, seen};
 use crate::points::{above, reaches, steeper, through};
 use crate::polygon::{Part, Polygon};
 use values::Line;
@@ -22,111 +21,55 @@ use values::Line;
 fn shortened(x: Polygon, t: Trimmed, end: usize) -> Polygon
     ensures { result ≡ shortened_to x t end }
 {
-    let upper = x.upper;
-    let lower = x.lower;
-    let slow = x.slow;
-    let fast = t.fast;
-    let front = Part {
-        start: upper.start,
-        end: end,
-    };
-    let rest = Part {
-        start: t.start,
-        end: lower.end,
-    };
     Polygon {
-        upper: front,
-        lower: rest,
-        slow: slow,
-        fast: fast,
+        upper: Part { end, ..x.upper },
+        lower: Part {
+            start: t.start,
+            ..x.lower
+        },
+        fast: t.fast,
+        ..x
     }
 }
 
 // The fit's lines at or below an upper end, where slow is below it and fast above it. The end joins the upper chain unless the fit is a mere segment of lines.
-fn cut(
-    up_times: &mut [u32],
-    up_values: &mut [i32],
-    down_times: &[u32],
-    down_values: &[i32],
-    flip: bool,
-    x: Polygon,
-    e: End,
-) -> Polygon
-    requires { (Shape x (chain up_times.old up_values.old) (chain down_times.now down_values.now)) × (Long (x.upper.end + 1) (chain up_times.old up_values.old)) × (Within most_value e.value) }
-    ensures { CutAt flip (chain up_times.old up_values.old) (chain down_times.now down_values.now) x e (chain up_times.new up_values.new) result }
+fn cut(up: &mut [End], down: &[End], flip: bool, x: Polygon, e: End) -> Polygon
+    requires { (Shape x (chain_of up.old) (chain_of down.now)) × (x.upper.end + 1 ≤ length up.old) × (Within most_value e.value) }
+    ensures { CutAt flip (chain_of up.old) (chain_of down.now) x e (chain_of up.new) result }
 {
-    let upper = x.upper;
-    let lower = x.lower;
     let n = seen(e, flip);
-    let t = trim(
-        up_times,
-        up_values,
-        down_times,
-        down_values,
-        flip,
-        upper,
-        lower,
-        n,
-    );
-    let end = t.end;
-    let last = t.slow;
-    let fast = t.fast;
-    if steeper(last, fast) {
-        store(up_times, up_values, end, e);
-        return shortened(x, t, end + 1);
+    let t = trim(up, down, flip, x.upper, x.lower, n);
+    if steeper(t.slow, t.fast) {
+        up[t.end] = e;
+        return shortened(x, t, t.end + 1);
     }
-    shortened(x, t, end)
+    shortened(x, t, t.end)
 }
 
 // The same polygon with one line for both.
 fn alone(x: Polygon, l: Line) -> Polygon
     ensures { result ≡ record { upper = x.upper; lower = x.lower; slow = l; fast = l } }
 {
-    let upper = x.upper;
-    let lower = x.lower;
     Polygon {
-        upper: upper,
-        lower: lower,
         slow: l,
         fast: l,
+        ..x
     }
 }
 
 // The fit's lines at or below an upper end.
-fn cut_above(
-    up_times: &mut [u32],
-    up_values: &mut [i32],
-    down_times: &[u32],
-    down_values: &[i32],
-    flip: bool,
-    x: Polygon,
-    e: End,
-) -> Polygon
-    requires { (Shape x (chain up_times.old up_values.old) (chain down_times.now down_values.now)) × (Long (x.upper.end + 1) (chain up_times.old up_values.old)) × (Within most_value e.value) }
-    ensures { AboveAt flip (chain up_times.old up_values.old) (chain down_times.now down_values.now) x e (chain up_times.new up_values.new) result }
+fn cut_above(up: &mut [End], down: &[End], flip: bool, x: Polygon, e: End) -> Polygon
+    requires { (Shape x (chain_of up.old) (chain_of down.now)) × (x.upper.end + 1 ≤ length up.old) × (Within most_value e.value) }
+    ensures { AboveAt flip (chain_of up.old) (chain_of down.now) x e (chain_of up.new) result }
 {
-    let slow = x.slow;
-    let fast = x.fast;
     let n = seen(e, flip);
-    if above(fast, n) {
-        if reaches(slow, n) {
-            return alone(x, slow);
+    if above(x.fast, n) {
+        if reaches(x.slow, n) {
+            return alone(x, x.slow);
         }
-        return cut(up_times, up_values, down_times, down_values, flip, x, e);
+        return cut(up, down, flip, x, e);
     }
     x
-}
-
-// Every value negated.
-fn negated(l: Line) -> Line
-    requires { Bounded l }
-    ensures { result ≡ neg_d l }
-{
-    Line {
-        p: 0 - l.p,
-        q: 0 - l.q,
-        d: l.d,
-    }
 }
 
 // Every value negated, so that the chains and the lines change places.
@@ -134,34 +77,21 @@ fn mirrored(x: Polygon) -> Polygon
     requires { (Bounded x.slow) × (Bounded x.fast) }
     ensures { result ≡ flipped x }
 {
-    let upper = x.upper;
-    let lower = x.lower;
-    let slow = x.slow;
-    let fast = x.fast;
-    let least = negated(fast);
-    let greatest = negated(slow);
     Polygon {
-        upper: lower,
-        lower: upper,
-        slow: least,
-        fast: greatest,
+        upper: x.lower,
+        lower: x.upper,
+        slow: -x.fast,
+        fast: -x.slow,
     }
 }
 
 // The fit's lines at or above a lower end: the cut above in the mirror.
-fn cut_below(
-    up_times: &[u32],
-    up_values: &[i32],
-    down_times: &mut [u32],
-    down_values: &mut [i32],
-    x: Polygon,
-    e: End,
-) -> Polygon
-    requires { (Shape x (chain up_times.now up_values.now) (chain down_times.old down_values.old)) × (Long (x.lower.end + 1) (chain down_times.old down_values.old)) × (Within most_value e.value) }
-    ensures { BelowAt (chain up_times.now up_values.now) (chain down_times.old down_values.old) x e (chain down_times.new down_values.new) result }
+fn cut_below(up: &[End], down: &mut [End], x: Polygon, e: End) -> Polygon
+    requires { (Shape x (chain_of up.now) (chain_of down.old)) × (x.lower.end + 1 ≤ length down.old) × (Within most_value e.value) }
+    ensures { BelowAt (chain_of up.now) (chain_of down.old) x e (chain_of down.new) result }
 {
     let m = mirrored(x);
-    let r = cut_above(down_times, down_values, up_times, up_values, true, m, e);
+    let r = cut_above(down, up, true, m, e);
     mirrored(r)
 }
 
@@ -173,73 +103,44 @@ fn first_entries(n: usize, slow: Line, fast: Line) -> Polygon
     Polygon {
         upper: entries,
         lower: entries,
-        slow: slow,
-        fast: fast,
+        slow,
+        fast,
     }
 }
 
 // The fit's lines through the one value of a range.
-fn cut_to_point(
-    up_times: &mut [u32],
-    up_values: &mut [i32],
-    down_times: &mut [u32],
-    down_values: &mut [i32],
-    x: Polygon,
-    e: End,
-) -> Polygon
-    requires { (Shape x (chain up_times.old up_values.old) (chain down_times.old down_values.old)) × (Within most_value e.value) }
-    ensures { PointAt (chain up_times.old up_values.old) (chain down_times.old down_values.old) x e (chain up_times.new up_values.new) (chain down_times.new down_values.new) result }
+fn cut_to_point(up: &mut [End], down: &mut [End], x: Polygon, e: End) -> Polygon
+    requires { (Shape x (chain_of up.old) (chain_of down.old)) × (Within most_value e.value) }
+    ensures { PointAt (chain_of up.old) (chain_of down.old) x e (chain_of up.new) (chain_of down.new) result }
 {
-    let slow = x.slow;
-    let fast = x.fast;
     let n = seen(e, false);
-    if reaches(slow, n) {
-        return alone(x, slow);
+    if reaches(x.slow, n) {
+        return alone(x, x.slow);
     }
-    if above(fast, n) {
-        let upper = x.upper;
-        let lower = x.lower;
-        let t = trim(
-            up_times,
-            up_values,
-            down_times,
-            down_values,
-            false,
-            upper,
-            lower,
-            n,
-        );
-        let least = t.slow;
-        let greatest = t.fast;
-        store(up_times, up_values, 0, e);
-        store(down_times, down_values, 0, e);
-        return first_entries(1, least, greatest);
+    if above(x.fast, n) {
+        let t = trim(up, down, false, x.upper, x.lower, n);
+        up[0] = e;
+        down[0] = e;
+        return first_entries(1, t.slow, t.fast);
     }
-    if reaches(fast, n) {
-        return alone(x, fast);
+    if reaches(x.fast, n) {
+        return alone(x, x.fast);
     }
     x
 }
 
 // The polygon after a range that joins the run.
-pub(crate) fn join(
-    up_times: &mut [u32],
-    up_values: &mut [i32],
-    down_times: &mut [u32],
-    down_values: &mut [i32],
-    x: Polygon,
-    r: Range,
-) -> Polygon
-    requires { (Shape x (chain up_times.old up_values.old) (chain down_times.old down_values.old)) × (Long (x.upper.end + 1) (chain up_times.old up_values.old)) × (Long (x.lower.end + 1) (chain down_times.old down_values.old)) × (ProperRange (range_of r)) }
-    ensures { JoinedAt (chain up_times.old up_values.old) (chain down_times.old down_values.old) x r (chain up_times.new up_values.new) (chain down_times.new down_values.new) result }
+pub(crate) fn join(up: &mut [End], down: &mut [End], x: Polygon, r: Range) -> Polygon
+    requires { (Shape x (chain_of up.old) (chain_of down.old)) × (x.upper.end + 1 ≤ length up.old) × (x.lower.end + 1 ≤ length down.old) × (ProperRange (range_of r)) }
+    ensures { JoinedAt (chain_of up.old) (chain_of down.old) x r (chain_of up.new) (chain_of down.new) result }
 {
     let high = high_end(r);
     if has_width(r) {
         let low = low_end(r);
-        let y = cut_above(up_times, up_values, down_times, down_values, false, x, high);
-        return cut_below(up_times, up_values, down_times, down_values, y, low);
+        let y = cut_above(up, down, false, x, high);
+        return cut_below(up, down, y, low);
     }
-    cut_to_point(up_times, up_values, down_times, down_values, x, high)
+    cut_to_point(up, down, x, high)
 }
 
 // The line through two ends.
@@ -266,26 +167,21 @@ fn first_part(r: Range, s: Range) -> Part
 }
 
 // The polygon of two ranges.
-pub fn begin(
-    up_times: &mut [u32],
-    up_values: &mut [i32],
-    down_times: &mut [u32],
-    down_values: &mut [i32],
-    r: Range,
-    s: Range,
-) -> Polygon
-    requires { (Long 2 (chain up_times.old up_values.old)) × (Long 2 (chain down_times.old down_values.old)) × (ProperRange (range_of r)) × (ProperRange (range_of s)) }
-    ensures { StartedAt r s (chain up_times.new up_values.new) (chain down_times.new down_values.new) result }
+pub fn begin(up: &mut [End], down: &mut [End], r: Range, s: Range) -> Polygon
+    requires { (2 ≤ length up.old) × (2 ≤ length down.old) × (ProperRange (range_of r)) × (ProperRange (range_of s)) }
+    ensures { StartedAt r s (chain_of up.new) (chain_of down.new) result }
 {
     let slow = joining(high_end(r), low_end(s));
     let fast = joining(low_end(r), high_end(s));
-    store_range(up_times, up_values, down_times, down_values, 0, r);
-    store_range(up_times, up_values, down_times, down_values, 1, s);
+    up[0] = high_end(r);
+    down[0] = low_end(r);
+    up[1] = high_end(s);
+    down[1] = low_end(s);
     let part = first_part(r, s);
     Polygon {
         upper: part,
         lower: part,
-        slow: slow,
-        fast: fast,
+        slow,
+        fast,
     }
 }

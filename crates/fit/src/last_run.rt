@@ -2,50 +2,41 @@
 ghost use Rattle.std.specs.Prelude.{◌<◌, ◌≤◌, length};
 ghost use Rattle.trial_laws.specs.Accepted.{AcceptedLists};
 ghost use Rattle.drift_laws.specs.RangeEnds.{lent};
-ghost use Rattle.drift_laws.specs.ChainParts.{chain, Long};
+ghost use Rattle.fit.specs.ChainsOfEnds.{chain_of};
 ghost use Rattle.fit.specs.LastRuns.{LastRun};
 
+use crate::ends::End;
 use crate::polygon::Polygon;
 use crate::run::run_from;
 
-// The number of its first range, and its polygon; one range has none, and 0 stands for each of its numbers.
+// The number of its first range, and its polygon; one range has none.
 #[derive(Clone, Copy)]
 pub struct Found {
     pub start: usize,
-    pub polygon: Polygon,
+    pub polygon: Option<Polygon>,
 }
 
 pub fn last_run(
     times: &[u32],
     highs: &[i32],
     lows: &[i32],
-    up_times: &mut [u32],
-    up_values: &mut [i32],
-    down_times: &mut [u32],
-    down_values: &mut [i32],
+    up: &mut [End],
+    down: &mut [End],
     k: usize,
 ) -> Found
-    requires { (AcceptedLists (lent times.now highs.now lows.now)) × (0 < k) × (k ≤ length times.now) × (Long k (chain up_times.old up_values.old)) × (Long k (chain down_times.old down_values.old)) }
-    ensures { LastRun (lent times.now highs.now lows.now) k (chain up_times.new up_values.new) (chain down_times.new down_values.new) result }
+    requires { (AcceptedLists (lent times.now highs.now lows.now)) × (0 < k) × (k ≤ length times.now) × (k ≤ length up.old) × (k ≤ length down.old) }
+    ensures { LastRun (lent times.now highs.now lows.now) k (chain_of up.new) (chain_of down.new) result }
 {
     let mut start = 0;
+    // a turn goes on by a whole run
     loop {
-        let reach = run_from(
-            times,
-            highs,
-            lows,
-            up_times,
-            up_values,
-            down_times,
-            down_values,
-            start,
-            k,
-        );
-        let end = reach.end;
-        if k <= end {
-            let polygon = reach.polygon;
-            return Found { start, polygon };
+        let reach = run_from(times, highs, lows, up, down, start, k);
+        if k <= reach.end {
+            return Found {
+                start,
+                polygon: reach.polygon,
+            };
         }
-        start = end;
+        start = reach.end;
     }
 }

@@ -1,7 +1,7 @@
-// The polygon of a fit: two chains of ends of ranges, each a part of a slice of times and one of values, and two lines.
+// The polygon of a fit: two chains of ends of ranges, each a part of a slice, and two lines.
 use values::Line;
 
-// The entries of slices from start up to, not including, end.
+// The entries of a slice from start up to, not including, end.
 #[derive(Clone, Copy)]
 pub struct Part {
     pub start: usize,

@@ -1,23 +1,30 @@
 // The run that begins at a range and goes as far as some line fits it.
-ghost use Rattle.std.specs.Prelude.{◌≡◌, false, ◌+◌, ◌-◌, ◌<◌, ◌≤◌, length};
+ghost use Rattle.std.specs.Prelude.{◌≡◌, ◌+◌, ◌-◌, ◌<◌, ◌≤◌, length};
 ghost use Rattle.trial_laws.specs.Accepted.{ProperRange, AcceptedLists};
 ghost use Rattle.drift_laws.specs.RangeEnds.{lent};
-ghost use Rattle.drift_laws.specs.ChainParts.{chain, Long};
 ghost use Rattle.values.specs.Small.{Bounded};
 ghost use Rattle.fit.specs.RangesByValue.{range_of};
+ghost use Rattle.fit.specs.ChainsOfEnds.{chain_of};
 ghost use Rattle.fit.specs.Polygons.{Shape};
-ghost use Rattle.fit.specs.RunsFrom.{Closing, RunFrom};
-ghost use Rattle.fit.specs.RunsOn.{GoneOn, TwoRoom, Opened, RunReady, RunOn};
+ghost use Rattle.fit.specs.RunsFrom.{Closing, Running, RunFrom};
+ghost use Rattle.fit.specs.RunsOn.{GoneOn, TwoRoom, RunReady, RunOn};
 
 use crate::cut::{begin, join};
-use crate::ends::{Range, high_end, low_end, range_at, seen};
+use crate::ends::{End, Range, high_end, low_end, range_at, seen};
 use crate::points::{above, reaches};
-use crate::polygon::{Part, Polygon};
+use crate::polygon::Polygon;
 use values::Line;
 
-// The number of the range after a run's last, and the run's polygon; a run of one range has none, and 0 stands for each of its numbers.
+// The number of the range after a run's last, and the run's polygon; a run of one range has none.
 #[derive(Clone, Copy)]
 pub struct Reach {
+    pub end: usize,
+    pub polygon: Option<Polygon>,
+}
+
+// The same of a run of two ranges or more.
+#[derive(Clone, Copy)]
+pub struct LongReach {
     pub end: usize,
     pub polygon: Polygon,
 }
@@ -29,10 +36,7 @@ fn closes(slow: Line, fast: Line, r: Range) -> bool
 {
     let high = seen(high_end(r), false);
     let low = seen(low_end(r), false);
-    if above(slow, high) {
-        return true;
-    }
-    if reaches(fast, low) { false } else { true }
+    above(slow, high) || !reaches(fast, low)
 }
 
 // A polygon goes on over the ranges from a place on, among the first n, until one closes the run. The ranges before them need not stand in these slices.
@@ -40,123 +44,74 @@ fn go_on(
     times: &[u32],
     highs: &[i32],
     lows: &[i32],
-    up_times: &mut [u32],
-    up_values: &mut [i32],
-    down_times: &mut [u32],
-    down_values: &mut [i32],
+    up: &mut [End],
+    down: &mut [End],
     before: Polygon,
     from: usize,
     n: usize,
-) -> Reach
-    requires { (AcceptedLists (lent times.now highs.now lows.now)) × (from ≤ n) × (n ≤ length times.now) × (Shape before (chain up_times.old up_values.old) (chain down_times.old down_values.old)) × (Long (before.upper.end + (n - from)) (chain up_times.old up_values.old)) × (Long (before.lower.end + (n - from)) (chain down_times.old down_values.old)) }
-    ensures { GoneOn (lent times.now highs.now lows.now) (chain up_times.old up_values.old) (chain down_times.old down_values.old) before from n (chain up_times.new up_values.new) (chain down_times.new down_values.new) result }
+) -> LongReach
+    requires { (AcceptedLists (lent times.now highs.now lows.now)) × (from ≤ n) × (n ≤ length times.now) × (Shape before (chain_of up.old) (chain_of down.old)) × (before.upper.end + (n - from) ≤ length up.old) × (before.lower.end + (n - from) ≤ length down.old) }
+    ensures { GoneOn (lent times.now highs.now lows.now) (chain_of up.old) (chain_of down.old) before from n (chain_of up.new) (chain_of down.new) result }
 {
-    let mut x = before;
-    let mut k = from;
-    while k < n {
-        let slow = x.slow;
-        let fast = x.fast;
+    let mut polygon = before;
+    for k in from..n {
         let r = range_at(times, highs, lows, k);
-        if closes(slow, fast, r) {
-            return Reach { end: k, polygon: x };
+        if closes(polygon.slow, polygon.fast, r) {
+            return LongReach { end: k, polygon };
         }
-        x = join(up_times, up_values, down_times, down_values, x, r);
-        k += 1;
+        polygon = join(up, down, polygon, r);
     }
-    Reach { end: k, polygon: x }
+    LongReach { end: n, polygon }
 }
 
-// Where a run stands before it goes on: as it was handed on if it has begun, and else after its first two ranges.
-fn opened(
+// The polygon of the first two ranges of a run.
+fn first_two(
     times: &[u32],
     highs: &[i32],
     lows: &[i32],
-    up_times: &mut [u32],
-    up_values: &mut [i32],
-    down_times: &mut [u32],
-    down_values: &mut [i32],
-    before: Polygon,
-    begun: bool,
+    up: &mut [End],
+    down: &mut [End],
     from: usize,
-) -> Reach
-    requires { (AcceptedLists (lent times.now highs.now lows.now)) × (begun ≡ false → TwoRoom (lent times.now highs.now lows.now) (chain up_times.old up_values.old) (chain down_times.old down_values.old) from) }
-    ensures { Opened (lent times.now highs.now lows.now) (chain up_times.old up_values.old) (chain down_times.old down_values.old) before begun from (chain up_times.new up_values.new) (chain down_times.new down_values.new) result }
+) -> Polygon
+    requires { (AcceptedLists (lent times.now highs.now lows.now)) × (TwoRoom (lent times.now highs.now lows.now) (chain_of up.old) (chain_of down.old) from) }
+    ensures { Running (lent times.now highs.now lows.now) (chain_of up.new) (chain_of down.new) from (from + 2) result }
 {
-    if begun {
-        return Reach {
-            end: from,
-            polygon: before,
-        };
-    }
     let first = range_at(times, highs, lows, from);
     let second = range_at(times, highs, lows, from + 1);
-    let two = begin(up_times, up_values, down_times, down_values, first, second);
-    Reach {
-        end: from + 2,
-        polygon: two,
-    }
+    begin(up, down, first, second)
 }
 
-// The run from a range on, among the first n; or, if one has begun, how far that goes on from there. A run of one range has no polygon, and gets what was handed on.
+// The run from a range on, among the first n; or, if its polygon is handed on, how far that goes on from there.
 // All runs go through here, so that the loop stands once in what is compiled, with the whole of a step put into it.
 pub fn run_on(
     times: &[u32],
     highs: &[i32],
     lows: &[i32],
-    up_times: &mut [u32],
-    up_values: &mut [i32],
-    down_times: &mut [u32],
-    down_values: &mut [i32],
-    before: Polygon,
-    begun: bool,
+    up: &mut [End],
+    down: &mut [End],
+    before: Option<Polygon>,
     from: usize,
     n: usize,
 ) -> Reach
-    requires { RunReady (lent times.now highs.now lows.now) (chain up_times.old up_values.old) (chain down_times.old down_values.old) before begun from n }
-    ensures { RunOn (lent times.now highs.now lows.now) (chain up_times.old up_values.old) (chain down_times.old down_values.old) before begun from n (chain up_times.new up_values.new) (chain down_times.new down_values.new) result }
+    requires { RunReady (lent times.now highs.now lows.now) (chain_of up.old) (chain_of down.old) before from n }
+    ensures { RunOn (lent times.now highs.now lows.now) (chain_of up.old) (chain_of down.old) before from n (chain_of up.new) (chain_of down.new) result }
 {
-    if !begun && n - from < 2 {
-        return Reach {
-            end: n,
-            polygon: before,
-        };
-    }
-    let run = opened(
-        times,
-        highs,
-        lows,
-        up_times,
-        up_values,
-        down_times,
-        down_values,
-        before,
-        begun,
-        from,
-    );
-    let polygon = run.polygon;
-    go_on(
-        times,
-        highs,
-        lows,
-        up_times,
-        up_values,
-        down_times,
-        down_values,
-        polygon,
-        run.end,
-        n,
-    )
-}
-
-// The polygon that stands for none.
-fn no_polygon() -> Polygon {
-    let part = Part { start: 0, end: 0 };
-    let line = Line { p: 0, q: 0, d: 0 };
-    Polygon {
-        upper: part,
-        lower: part,
-        slow: line,
-        fast: line,
+    let (polygon, next) = match before {
+        Some(polygon) => (polygon, from),
+        None => {
+            if n - from < 2 {
+                return Reach {
+                    end: n,
+                    polygon: None,
+                };
+            }
+            (first_two(times, highs, lows, up, down, from), from + 2)
+        }
+    };
+    let gone = go_on(times, highs, lows, up, down, polygon, next, n);
+    Reach {
+        end: gone.end,
+        polygon: Some(gone.polygon),
     }
 }
 
@@ -165,28 +120,13 @@ pub fn run_from(
     times: &[u32],
     highs: &[i32],
     lows: &[i32],
-    up_times: &mut [u32],
-    up_values: &mut [i32],
-    down_times: &mut [u32],
-    down_values: &mut [i32],
+    up: &mut [End],
+    down: &mut [End],
     i: usize,
     n: usize,
 ) -> Reach
-    requires { (AcceptedLists (lent times.now highs.now lows.now)) × (i < n) × (n ≤ length times.now) × (Long (n - i) (chain up_times.old up_values.old)) × (Long (n - i) (chain down_times.old down_values.old)) }
-    ensures { RunFrom (lent times.now highs.now lows.now) i n (chain up_times.new up_values.new) (chain down_times.new down_values.new) result }
+    requires { (AcceptedLists (lent times.now highs.now lows.now)) × (i < n) × (n ≤ length times.now) × (n - i ≤ length up.old) × (n - i ≤ length down.old) }
+    ensures { RunFrom (lent times.now highs.now lows.now) i n (chain_of up.new) (chain_of down.new) result }
 {
-    let none = no_polygon();
-    run_on(
-        times,
-        highs,
-        lows,
-        up_times,
-        up_values,
-        down_times,
-        down_values,
-        none,
-        false,
-        i,
-        n,
-    )
+    run_on(times, highs, lows, up, down, None, i, n)
 }

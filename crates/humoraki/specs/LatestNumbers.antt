@@ -14,7 +14,11 @@
 --     LatestCalls, calls_are_segments   cutting a whole trace from its end: Latest is called on the lists, then on the lists without the run that it set, until nothing is left, and that takes as many calls as Segment sets as the count of segments
 --
 -- Assumes nothing.
-use Rattle.std.specs.Prelude.{ℕ, suc, ◌-◌, ◌<◌, ◌≤◌, ◌≡◌, ◌↔◌, Bool, List, [], ◌∷◌, map, get_or, ◌<ℤ◌}
+use Rattle.definitions.specs.Refusals.{refusal_number}
+use Rattle.humoraki.specs.TabledNumbers.{in-table, few_numbers, service-tabled}
+use Rattle.trial_laws.specs.RefusalNumbers.{refusal_of, number_again, answer_with}
+use Rattle.definitions.specs.declared.refusals.Refusal.{Refusal}
+use Rattle.std.specs.Prelude.{ℕ, suc, ◌-◌, ◌<◌, ◌≤◌, ◌≡◌, ◌↔◌, Bool, List, [], ◌∷◌, map, get_or, ◌<ℤ◌, Err, Ok, Result}
 use Rattle.std.proofs.Math.Path.{refl, sym, ap}
 use Rattle.std.proofs.Common.{◌∙◌, subst, arith}
 use Rattle.std.proofs.Math.Bool.{true, false}
@@ -38,8 +42,6 @@ use Rattle.values.specs.Meanings.{outlook_of}
 use Rattle.drift.specs.Columns.{lengths, row_at}
 use Rattle.drift.specs.CornersPromise.{three_lengths}
 use Rattle.latest.specs.declared.Trend.{Trend}
-use Rattle.latest.specs.declared.LatestAnswer.{LatestAnswer}
-use Rattle.latest.specs.declared.LatestAnswer.TheVariants.{Accepted, Refused}
 use Rattle.latest.specs.LatestPromise.{told_of, trend_meaning, latest_meaning, LatestPromise}
 use Rattle.latest.specs.GivenTrends.{last_ranges, run_length}
 use Rattle.latest.specs.LatestTheorems.{given_two, given_open, given_few, given_lines_is, given_some}
@@ -47,9 +49,10 @@ use Rattle.latest.specs.AgainstSegment.{rows_same, covers_last, agrees_outlook}
 use Rattle.latest.specs.CutFromEnd.{without, CallsFromEnd, nothing_left, one_call, rest_accepted, calls_count}
 use Rattle.answer_numbers.specs.Told.{eight}
 use Rattle.humoraki.specs.Promises.{SegmentLent, AfterSegment, LatestLent, latest_answer, AfterLatest}
+use Rattle.humoraki.specs.Zero.{latest-above}
 use Rattle.humoraki.specs.Zero as Zero
 use Rattle.humoraki.specs.PreviewNumbers.{outlook_in, outlook-means}
-use Rattle.humoraki.specs.PreviewAgreement.{segment_answer_of, segment-below}
+use Rattle.humoraki.specs.PreviewAgreement.{segment-below}
 
 kept : (answer : Answer TrendTerm) {old new : LatestLent} {number : ℕ} → number ≡ refusal answer → 0 < number → new.ranges ≡ given answer (λ t. t.ranges) old.ranges
     → new.numbers ≡ given answer (λ t. outlook_numbers t.outlook) old.numbers → new.corners ≡ given answer (λ t. length t.corners) old.corners
@@ -82,7 +85,7 @@ module _ {v : Service} {ls : Lists} {old new : LatestLent} {number : ℕ} (after
     abbrev pub trend_at : Trend
     trend_at = record { ranges = new.ranges; outlook = outlook_in trend_found.0.outlook; corners = new.corners }
 
-    pub promise_below : LatestPromise v ls old.ps old.qs old.ds new.ps new.qs new.ds (Accepted trend_at)
+    pub promise_below : LatestPromise v ls old.ps old.qs old.ds new.ps new.qs new.ds (Ok trend_at)
     unfolding latest_meaning ◌>>=◌
     promise_below =
         let told : trend_meaning trend_at ≡ told_of trend_found.0 = λ i. record { ranges = ranges_found i; outlook = outlook-means trend_found.0.outlook i; corners = corners_found i } in
@@ -124,14 +127,18 @@ module _ {v : Service} {ls : Lists} {old new : LatestLent} {number : ℕ} (after
         by z true e = ltb-true new.ranges 2 e
         by z false e = absurd (omega (arith, given_some promise_below (omega (arith, ltb-false new.ranges 2 e, (run_length promise_below).1))))
 
-  pub latest-below : (answer : LatestAnswer) × LatestPromise v ls old.ps old.qs old.ds new.ps new.qs new.ds answer × (number ≡ refusal (latest_meaning answer))
-  unfolding latest_meaning ◌>>=◌ refusal
+  pub latest-below : (answer : Result Trend Refusal) × LatestPromise v ls old.ps old.qs old.ds new.ps new.qs new.ds answer × (number ≡ refusal (latest_meaning answer))
+  unfolding latest_meaning latest_call latest_rows ◌>>=◌ refusal
   latest-below = by (latest_answer v ls old) refl
     where
-      by : (x : Answer TrendTerm) → latest_answer v ls old ≡ x → (answer : LatestAnswer) × LatestPromise v ls old.ps old.qs old.ds new.ps new.qs new.ds answer × (number ≡ refusal (latest_meaning answer))
+      few : refusal (latest_answer v ls old) ≤ 14
+      few = few_numbers _ (trend_of v (latest_run (ranges_of ls))) (service-tabled corner_room (three_lengths old.ps old.qs old.ds) v ls)
+
+      by : (x : Answer TrendTerm) → latest_answer v ls old ≡ x → (answer : Result Trend Refusal) × LatestPromise v ls old.ps old.qs old.ds new.ps new.qs new.ds answer × (number ≡ refusal (latest_meaning answer))
       by (refused n) e =
-          (Refused n, record { answer_is = sym (ap (λ x. x >>= λ t. accepted (told_of t)) e); ps_are = after.ps_are; qs_are = after.qs_are; ds_are = after.ds_are }, after.number_is ∙ ap refusal e)
-      by (accepted x) e = let zero = after.number_is ∙ ap refusal e in (Accepted (trend_at zero), promise_below zero, zero)
+          let told = number_again n (in-table n (latest-above v ls old n e) (subst (λ x. refusal x ≤ 14) e few)) in
+          (Err (refusal_of n), record { answer_is = ap refused told ∙ sym (ap (λ x. x >>= λ t. accepted (told_of t)) e); ps_are = after.ps_are; qs_are = after.qs_are; ds_are = after.ds_are }, after.number_is ∙ ap refusal e ∙ sym told)
+      by (accepted x) e = let zero = after.number_is ∙ ap refusal e in (Ok (trend_at zero), promise_below zero, zero)
 
 -- ---- against Segment
 
@@ -148,11 +155,11 @@ module _ {v : Service} {ls : Lists} {p p' : LatestLent} {s s' : SegmentLent} whe
 
   module _ (after : AfterLatest v ls p p' 0) (segmented : AfterSegment v ls s s' 0) (some : 0 < length ls.times) where
     pub last_covered : (row_at s'.columns (s'.count - 1)).count ≤ p'.ranges
-    unfolding segment_answer_of
+    unfolding answer_with
     last_covered = covers_last (promise_below after refl) (segment-below segmented) some
 
     pub same_outlook : (row_at s'.columns (s'.count - 1)).count ≡ p'.ranges → last_eight (row_at s'.columns (s'.count - 1)) ≡ p'.numbers
-    unfolding segment_answer_of
+    unfolding answer_with
     same_outlook same = agrees_outlook (promise_below after refl) (segment-below segmented) some same ∙ sym (numbers-below after refl)
 
 -- ---- cutting from the end
@@ -162,9 +169,9 @@ pub rest-zero : {v : Service} {ls : Lists} {old new old₁ new₁ : LatestLent} 
 unfolding latest_meaning refusal
 rest-zero after next room = let (answer, promise, is) = latest-below next in is ∙ by answer (rest_accepted (promise_below after refl) room promise)
   where
-    by : (answer : LatestAnswer) → ((n : ℕ) → ¬ (latest_meaning answer ≡ refused n)) → refusal (latest_meaning answer) ≡ 0
-    by (Accepted t) h = refl
-    by (Refused n) h = absurd (h n refl)
+    by : (answer : Result Trend Refusal) → ((n : ℕ) → ¬ (latest_meaning answer ≡ refused n)) → refusal (latest_meaning answer) ≡ 0
+    by (Ok t) h = refl
+    by (Err e) h = absurd (h (refusal_number e) refl)
 
 pub data LatestCalls (v : Service) : Lists → ℕ → Type 0 where
   none_left : {ls : Lists} → length ls.times ≡ 0 → LatestCalls v ls 0
@@ -177,5 +184,5 @@ below (call {new = new} some after rest) =
     (trend_at after refl ∷ trends, one_call some (promise_below after refl) calls, ap suc count)
 
 pub calls_are_segments : {v : Service} {ls : Lists} {k : ℕ} → LatestCalls v ls k → {old new : SegmentLent} → AfterSegment v ls old new 0 → k ≡ new.count
-unfolding segment_answer_of
+unfolding answer_with
 calls_are_segments cuts after = let (trends, calls, count) = below cuts in sym count ∙ calls_count calls (segment-below after)

@@ -1,6 +1,7 @@
 pub mod Promises
 pub mod PromiseLaws
 pub mod Zero
+pub mod TabledNumbers
 pub mod OpenFit
 pub mod PreviewNumbers
 pub mod PreviewAgreement

@@ -46,13 +46,14 @@ use Rattle.humoraki.specs.LatestNumbers as LatestNumbers
 use Rattle.humoraki.specs.LatestNumbers.{trend_at}
 use Rattle.humoraki.specs.OpenFit.{answer_of, promise_below, fit_found, count_found}
 use Rattle.humoraki.specs.PreviewNumbers.{effect_found, kind_found, numbers_found}
-use Rattle.humoraki.specs.PreviewAgreement.{segment_answer_of, segment-below}
+use Rattle.humoraki.specs.PreviewAgreement.{segment-below}
+use Rattle.trial_laws.specs.RefusalNumbers.{answer_with}
 
 -- ---- Segment
 
-accepted-zero : {number : ℕ} (count : ℕ) → number ≡ 0 → segment_meaning (segment_answer_of number count) ≡ accepted count
-unfolding segment_meaning segment_answer_of
-accepted-zero count zero = ap (λ n. segment_meaning (segment_answer_of n count)) zero
+accepted-zero : {number : ℕ} (count : ℕ) → number ≡ 0 → segment_meaning (answer_with count number) ≡ accepted count
+unfolding segment_meaning answer_with
+accepted-zero count zero = ap (λ n. segment_meaning (answer_with count n)) zero
 
 module _ {v : Service} {ls : Lists} {old new old' new' : SegmentLent} {number number' : ℕ} (after : AfterSegment v ls old new number) (image : AfterSegment (mirrored_service v) (mirrored_lists ls) old' new' number')
     (alike : too_short segment_room (lengths old'.columns) ≡ too_short segment_room (lengths old.columns)) where

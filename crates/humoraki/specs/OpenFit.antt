@@ -6,7 +6,8 @@
 --     one_range_iff             and exactly if the segment then running has one range
 --
 -- Assumes nothing.
-use Rattle.std.specs.Prelude.{ℕ, ◌<◌, ◌≡◌, ◌↔◌, List, [], ◌∷◌}
+use Rattle.definitions.specs.declared.refusals.Refusal.{Refusal}
+use Rattle.std.specs.Prelude.{ℕ, ◌<◌, ◌≡◌, ◌↔◌, List, [], ◌∷◌, None, Ok, Option, Result, Some}
 use Rattle.std.proofs.Math.Path.{refl, sym, ap}
 use Rattle.std.proofs.Common.{◌∙◌, arith}
 use Rattle.std.proofs.Math.ListN.{length}
@@ -18,17 +19,15 @@ use Rattle.definitions.specs.Trial.{corner_rows}
 use Rattle.definitions.specs.Calls.{Fit, open_strip, bounded, fit_of, corners_in, corners_call}
 use Rattle.trial_laws.specs.CallLaws.{call-accepted, accepted-is}
 use Rattle.lines.specs.Theorems.{corners_some}
-use Rattle.drift.specs.declared.CornersAnswer.{CornersAnswer}
-use Rattle.drift.specs.declared.CornersAnswer.TheVariants.{Corners, Open}
 use Rattle.drift.specs.CornersPromise.{count_of, corners_meaning, three_lengths, CornersPromise}
 use Rattle.drift.specs.CornerTheorems.{given_corners, given_about, given_count, open_one}
 use Rattle.humoraki.specs.Promises.{CornersLent, corners_answer, AfterCorners}
 use Rattle.humoraki.specs.Zero.{Accepted, corners-zero}
 
 -- the answer of the call below that tells of a fit
-unfoldable pub answer_of : Fit → CornersAnswer
-answer_of open_strip = Open
-answer_of (bounded ks) = Corners (length ks)
+unfoldable pub answer_of : Fit → Result (Option ℕ) Refusal
+answer_of open_strip = Ok None
+answer_of (bounded ks) = Ok (Some (length ks))
 
 answer-means : (fit : Fit) → corners_meaning (answer_of fit) ≡ accepted (count_of fit)
 unfolding answer_of corners_meaning count_of
@@ -55,7 +54,7 @@ module _ {k : ℕ} {ls : Lists} {old new : CornersLent} {number : ℕ} (after : 
   bounded_some : (ks : List Line) → corners_answer k ls old ≡ accepted (bounded ks) → 0 < length ks
   unfolding answer_of
   bounded_some ks e =
-      let below : CornersPromise k ls old.ps old.qs old.ds new.ps new.qs new.ds (Corners (length ks)) = promise_below e in
+      let below : CornersPromise k ls old.ps old.qs old.ds new.ps new.qs new.ds (Ok (Some (length ks))) = promise_below e in
       omega (arith, (given_count below).0, ap length (given_corners below), given_about below (λ rs ks. 0 < length ks) (λ r s ws o h. corners_some r s ws o h))
 
   bounded_more : (ks : List Line) → corners_answer k ls old ≡ accepted (bounded ks) → length segment ≡ 1 → open_strip ≡ bounded ks

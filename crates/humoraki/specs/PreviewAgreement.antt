@@ -1,6 +1,6 @@
 -- What the library's Preview sets, against what its Segment leaves on the lists with the range added.
 --
---     segment_answer_of, segment-below   what the library leaves is what the call below leaves with this answer, so drift's and preview's theorems are about it
+--     segment-below   what the library leaves is what the call below leaves with this answer, so drift's and preview's theorems are about it
 --     preview-below                    the same of Preview, refused or not
 --     same_number                      where the slices of Segment are long enough, both give one number
 --     same_outlook                     where that is 0, the eight numbers set are those of the last row in the slices
@@ -8,7 +8,13 @@
 --     begins_exactly_zeros             the kind is 1 exactly if the eight numbers are 0
 --
 -- Assumes nothing.
-use Rattle.std.specs.Prelude.{ℕ, zero, suc, ◌+◌, ◌-◌, ◌≡◌, ◌↔◌, ◌⊎◌, false, length, ◌<ℤ◌}
+use Rattle.definitions.specs.Trial.{segment_rows}
+use Rattle.trial_laws.specs.LongerLists.{effect_on, preview_by_rows}
+use Rattle.preview.specs.declared.Effect.{Effect as EffectOfCode}
+use Rattle.humoraki.specs.TabledNumbers.{in-table, result-means, few_numbers, service-tabled}
+use Rattle.trial_laws.specs.RefusalNumbers.{refusal_of, number_again, answer_with}
+use Rattle.definitions.specs.declared.refusals.Refusal.{Refusal}
+use Rattle.std.specs.Prelude.{ℕ, ◌+◌, ◌-◌, ◌≡◌, ◌↔◌, ◌⊎◌, false, length, ◌<ℤ◌, ◌≤◌, ◌<◌, Err, Ok, Result}
 use Rattle.std.proofs.Math.Path.{refl, sym, ap, subst}
 use Rattle.std.proofs.Common.{◌∙◌, inl, inr, arith}
 use mathlib.Core.List.{[]}
@@ -24,12 +30,8 @@ use Rattle.definitions.specs.Trial.{too_short}
 use Rattle.definitions.specs.Calls.{segment_call}
 use Rattle.definitions.specs.Previews.{Effect, longer, effect_of, preview_call}
 use Rattle.trial_laws.specs.CallLaws.{refusal-tells}
-use Rattle.drift.specs.declared.SegmentAnswer.{SegmentAnswer}
-use Rattle.drift.specs.declared.SegmentAnswer.TheVariants.{Accepted, Refused}
 use Rattle.drift.specs.Columns.{lengths, row_at}
 use Rattle.drift.specs.SegmentPromise.{segment_meaning, SegmentPromise}
-use Rattle.preview.specs.declared.PreviewAnswer.{PreviewAnswer}
-use Rattle.preview.specs.declared.PreviewAnswer.TheVariants as variants
 use Rattle.preview.specs.PreviewPromise.{preview_meaning, PreviewPromise}
 use Rattle.preview.specs.Agreement.{rows_same}
 use Rattle.preview.specs.PreviewTheorems.{agrees_outlook, agrees_begins, agrees_joins}
@@ -38,26 +40,25 @@ use Rattle.humoraki.specs.Promises.{SegmentLent, segment_answer, AfterSegment, P
 use Rattle.humoraki.specs.Zero as Zero
 use Rattle.humoraki.specs.PreviewNumbers.{answer-below, effect_found, numbers_found, kind_in, joins_kind, joins_means, begins_kind, begins_zeros}
 
-unfoldable pub segment_answer_of : ℕ → ℕ → SegmentAnswer
-segment_answer_of zero count = Accepted count
-segment_answer_of (suc n) count = Refused (suc n)
-
-segments-mean : (number count : ℕ) → segment_meaning (segment_answer_of number count) ≡ Zero.number_answer number count
-unfolding segment_meaning segment_answer_of Zero.number_answer
-segments-mean zero count = refl
-segments-mean (suc n) count = refl
-
-pub segment-below : {v : Service} {ls : Lists} {old new : SegmentLent} {number : ℕ} → AfterSegment v ls old new number → SegmentPromise v ls old.columns new.columns (segment_answer_of number new.count)
+pub segment-below : {v : Service} {ls : Lists} {old new : SegmentLent} {number : ℕ} → AfterSegment v ls old new number → SegmentPromise v ls old.columns new.columns (answer_with new.count number)
+unfolding segment_meaning segment_call segment_rows
 segment-below {v} {ls} {old} {new} {number} after =
-    record { answer_is = segments-mean number new.count ∙ Zero.counted-mean (segment_answer v ls old) length old.count new.count number after.counted (Zero.segment-zero after).0; columns_are = after.columns_are }
+    let few : number ≤ 14 = subst (λ n. n ≤ 14) (sym after.counted.number_is) (few_numbers _ (segments_of v (ranges_of ls)) (service-tabled segment_room (lengths old.columns) v ls)) in
+    record { answer_is = result-means number new.count few ∙ Zero.counted-mean (segment_answer v ls old) length old.count new.count number after.counted (Zero.segment-zero after).0; columns_are = after.columns_are }
 
 pub preview-below : {v : Service} {ls : Lists} {r : Range} {old new : PreviewLent} {number : ℕ} → AfterPreview v ls r old new number
-    → (answer : PreviewAnswer) × PreviewPromise v ls r answer × (number ≡ refusal (preview_meaning answer))
-unfolding preview_meaning
+    → (answer : Result EffectOfCode Refusal) × PreviewPromise v ls r answer × (number ≡ refusal (preview_meaning answer))
+unfolding preview_meaning segment_rows refusal
 preview-below {v} {ls} {r} {number = number} after = by (preview_answer v ls r) refl
   where
-    by : (x : Answer Effect) → preview_answer v ls r ≡ x → (answer : PreviewAnswer) × PreviewPromise v ls r answer × (number ≡ refusal (preview_meaning answer))
-    by (refused n) e = (variants.Refused n, record { answer_is = sym e }, after.number_is ∙ ap refusal e)
+    few : refusal (preview_answer v ls r) ≤ 14
+    few = subst (λ x. refusal x ≤ 14) (sym (preview_by_rows v ls r)) (few_numbers _ (effect_on v ls r) (service-tabled segment_room [] v (longer ls r)))
+
+    by : (x : Answer Effect) → preview_answer v ls r ≡ x → (answer : Result EffectOfCode Refusal) × PreviewPromise v ls r answer × (number ≡ refusal (preview_meaning answer))
+    by (refused n) e =
+        let above : 0 < n = Zero.preview-above v ls r n e in
+        let told = number_again n (in-table n above (subst (λ x. refusal x ≤ 14) e few)) in
+        (Err (refusal_of n), record { answer_is = ap refused told ∙ sym e }, after.number_is ∙ ap refusal e ∙ sym told)
     by (accepted x) e = let below = answer-below v ls r e in (below.0, below.1, after.number_is ∙ ap refusal (e ∙ sym below.2))
 
 module _ {v : Service} {ls : Lists} {r : Range} {old new : PreviewLent} (after : AfterPreview v ls r old new 0) where
@@ -84,21 +85,21 @@ module _ {v : Service} {ls : Lists} {r : Range} {p p' : PreviewLent} {s s' : Seg
       ∙ sym segmented.counted.number_is
 
   module _ (previewed : AfterPreview v ls r p p' 0) (segmented : AfterSegment v (longer ls r) s s' 0) where
-    abbrev below : (answer : PreviewAnswer) × PreviewPromise v ls r answer × (preview_meaning answer ≡ accepted (effect_found previewed refl).0)
+    abbrev below : (answer : Result EffectOfCode Refusal) × PreviewPromise v ls r answer × (preview_meaning answer ≡ accepted (effect_found previewed refl).0)
     below = answer-below v ls r (effect_found previewed refl).1
 
-    segmented_below : SegmentPromise v (longer ls r) s.columns s'.columns (Accepted s'.count)
-    unfolding segment_answer_of
+    segmented_below : SegmentPromise v (longer ls r) s.columns s'.columns (Ok s'.count)
+    unfolding answer_with
     segmented_below = segment-below segmented
 
     pub same_outlook : p'.numbers ≡ last_eight (row_at s'.columns (s'.count - 1))
     same_outlook = numbers_found previewed refl ∙ sym (agrees_outlook below.1 segmented_below below.2)
 
     pub same_kind : {t t' : SegmentLent} → AfterSegment v ls t t' 0 → s'.count ≡ t'.count + p'.kind
-    unfolding segment_answer_of
+    unfolding answer_with
     same_kind {t} {t'} before = by (kind_in previewed refl)
       where
-        before_below : SegmentPromise v ls t.columns t'.columns (Accepted t'.count)
+        before_below : SegmentPromise v ls t.columns t'.columns (Ok t'.count)
         before_below = segment-below before
 
         by : (p'.kind ≡ 0) ⊎ (p'.kind ≡ 1) → s'.count ≡ t'.count + p'.kind

@@ -11,7 +11,10 @@
 --     answer-below                  an effect that the library tells is that of an answer with which the call below keeps its promise, so preview's PreviewTheorems are about it
 --
 -- Assumes nothing.
-use Rattle.std.specs.Prelude.{ℕ, ◌<◌, ◌≡◌, refl, ◌↔◌, ◌⊎◌, [], ◌∷◌, ◌++◌, pos}
+use Rattle.preview.specs.declared.Effect.TheVariants.{Joins, Begins}
+use Rattle.preview.specs.declared.Effect.{Effect as EffectOfCode}
+use Rattle.definitions.specs.declared.refusals.Refusal.{Refusal}
+use Rattle.std.specs.Prelude.{ℕ, Option, None, Some, ◌<◌, ◌≡◌, refl, ◌↔◌, ◌⊎◌, [], ◌∷◌, ◌++◌, pos, Ok, Result}
 use Rattle.std.proofs.Common.{sym, ap₂, ◌∙◌, arith}
 use Rattle.std.proofs.Math.Path.{ap}
 use Rattle.std.proofs.Math.Logic.{inl, inr}
@@ -26,13 +29,9 @@ use Rattle.definitions.specs.Answers.{Answer, refused, accepted, refusal, given}
 use Rattle.definitions.specs.Previews.{Effect, joins, begins, kind_number, effect_outlook}
 use Rattle.lines.specs.RunOutlook.{LinesOf}
 use Rattle.trial_laws.specs.CallLaws.{accepted-is}
-use Rattle.values.specs.declared.Time.{Time}
-use Rattle.values.specs.declared.Time.TheVariants.{Never, At}
 use Rattle.values.specs.declared.Outlook.{Outlook}
 use Rattle.values.specs.declared.Outlook.TheVariants.{Open, Lines}
 use Rattle.values.specs.Meanings.{time_of, outlook_of}
-use Rattle.preview.specs.declared.PreviewAnswer.{PreviewAnswer}
-use Rattle.preview.specs.declared.PreviewAnswer.TheVariants.{Joins, Begins}
 use Rattle.preview.specs.PreviewPromise.{preview_meaning, PreviewPromise}
 use Rattle.preview.specs.PreviewTheorems.{begins_open, joins_lines}
 use Rattle.answer_numbers.specs.Told.{eight}
@@ -41,17 +40,17 @@ use Rattle.humoraki.specs.Zero.{Accepted, preview-zero}
 
 -- ---- the answer of the call below that tells of an effect
 
-time_in : TimeTerm → Time
-time_in none = Never
-time_in (at t) = At t
+time_in : TimeTerm → Option ℕ
+time_in none = None
+time_in (at t) = Some t
 
 pub outlook_in : OutlookTerm → Outlook
 outlook_in open_strip = Open
 outlook_in (lines slow fast s a) = Lines (record { p = slow.p; q = slow.q; d = slow.d }) (record { p = fast.p; q = fast.q; d = fast.d }) (time_in s) (time_in a)
 
-answer_of : Effect → PreviewAnswer
-answer_of (joins o) = Joins (outlook_in o)
-answer_of (begins o) = Begins (outlook_in o)
+answer_of : Effect → Result EffectOfCode Refusal
+answer_of (joins o) = Ok (Joins (outlook_in o))
+answer_of (begins o) = Ok (Begins (outlook_in o))
 
 time-means : (t : TimeTerm) → time_of (time_in t) ≡ t
 unfolding time_of time_in
@@ -69,7 +68,7 @@ answer-means (joins o) = ap (λ x. accepted (joins x)) (outlook-means o)
 answer-means (begins o) = ap (λ x. accepted (begins x)) (outlook-means o)
 
 pub answer-below : (v : Service) (ls : Lists) (r : Range) {e : Effect} → preview_answer v ls r ≡ accepted e
-    → (answer : PreviewAnswer) × PreviewPromise v ls r answer × (preview_meaning answer ≡ accepted e)
+    → (answer : Result EffectOfCode Refusal) × PreviewPromise v ls r answer × (preview_meaning answer ≡ accepted e)
 answer-below v ls r {e} is = (answer_of e, record { answer_is = answer-means e ∙ sym is }, answer-means e)
 
 -- what begins is open

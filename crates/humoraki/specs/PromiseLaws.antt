@@ -4,7 +4,11 @@
 --     after_read, after_write, after-segment, after-corners, after-preview, after-latest, after-report, after-add, after-head-ranges   the promise of each call, from that of the call below and the numbers that its answer is given as
 --
 -- Assumes nothing.
-use Rattle.std.specs.Prelude.{ℕ, ◌≡◌, refl, List, length}
+use Rattle.latest.specs.declared.Trend.{Trend}
+use Rattle.preview.specs.declared.Effect.{Effect as EffectOfCode}
+use Rattle.trace.specs.declared.TraceRecord.{TraceRecord}
+use Rattle.definitions.specs.declared.refusals.Refusal.{Refusal}
+use Rattle.std.specs.Prelude.{ℕ, ◌≡◌, refl, List, length, Option, Result}
 use Rattle.std.proofs.Common.{ap, ◌∙◌}
 use Rattle.definitions.specs.Services.{Service}
 use Rattle.definitions.specs.Ranges.{Range, Lists}
@@ -16,21 +20,12 @@ use Rattle.definitions.specs.Panels.{Panel}
 use Rattle.definitions.specs.PanelCalls.{add_call}
 use Rattle.definitions.specs.Results.{outlook_numbers}
 use Rattle.trial_laws.specs.CallLaws.{refusal-tells}
-use Rattle.trace.specs.declared.ReadAnswer.{ReadAnswer}
-use Rattle.trace.specs.declared.WriteAnswer.{WriteAnswer}
 use Rattle.trace.specs.Promises.{write_meaning, record_of, write_into, ReadPromise, WritePromise}
-use Rattle.drift.specs.declared.SegmentAnswer.{SegmentAnswer}
-use Rattle.drift.specs.declared.CornersAnswer.{CornersAnswer}
 use Rattle.drift.specs.SegmentPromise.{segment_meaning, SegmentPromise}
 use Rattle.drift.specs.CornersPromise.{count_of, corners_meaning, CornersPromise}
-use Rattle.preview.specs.declared.PreviewAnswer.{PreviewAnswer}
 use Rattle.preview.specs.PreviewPromise.{PreviewPromise}
-use Rattle.latest.specs.declared.LatestAnswer.{LatestAnswer}
 use Rattle.latest.specs.LatestPromise.{told_of, LatestPromise}
-use Rattle.report_text.specs.declared.ReportAnswer.{ReportAnswer}
 use Rattle.report_text.specs.ReportPromise.{report_meaning, ReportPromise}
-use Rattle.panel.specs.declared.AddAnswer.{AddAnswer}
-use Rattle.panel.specs.declared.HeadRangesAnswer.{HeadRangesAnswer}
 use Rattle.panel.specs.Promises.{add_meaning, AddPromise, head_ranges_meaning, HeadRangesPromise}
 use Rattle.answer_numbers.specs.Told.{Counts, ReadTold, corner_number, PreviewTold, LatestTold}
 use Rattle.humoraki.specs.Promises.{ReadLent, read_answer, AfterRead, WriteLent, AfterWrite, SegmentLent, segment_answer, AfterSegment, CornersLent, corners_answer, AfterCorners, PreviewLent, AfterPreview, LatestLent, latest_answer, AfterLatest, ReportLent, report_answer, AfterReport, AfterAdd, HeadRangesLent, head_ranges_answer, AfterHeadRanges}
@@ -52,7 +47,7 @@ module _ {A B : Type 0} (tells : B → A) (below : Answer B) {answer : Answer A}
   pub counts_told : (of-told : A → ℕ) (of-result : B → ℕ) → ((b : B) → of-told (tells b) ≡ of-result b) → (old : ℕ) {new number : ℕ} → Counts answer of-told old new number → Counts below of-result old new number
   counts_told of-told of-result e old h = record { number_is = number_told h.number_is; count-is = value_told of-told of-result e old h.count-is }
 
-pub after_read : (file : List ℕ) (old new : ReadLent) {answer : ReadAnswer} {r : ℕ} → ReadPromise file old.times old.lows old.highs new.times new.lows new.highs answer
+pub after_read : (file : List ℕ) (old new : ReadLent) {answer : Result TraceRecord Refusal} {r : ℕ} → ReadPromise file old.times old.lows old.highs new.times new.lows new.highs answer
     → ReadTold answer old.address old.level old.direction old.step old.ranges new.address new.level new.direction new.step new.ranges r → AfterRead file old new r
 unfolding record_of
 after_read file old new h told =
@@ -69,12 +64,12 @@ after_read file old new h told =
       ranges_is = value_told record_of below h.answer_is (λ known. known.ranges) (λ t. length t.ranges) (λ t. refl) old.ranges told.ranges_is;
     }
 
-pub after_write : (h : Header) (ls : Lists) (old new : WriteLent) {answer : WriteAnswer} {r : ℕ} → WritePromise h ls old.file new.file answer
+pub after_write : (h : Header) (ls : Lists) (old new : WriteLent) {answer : Result ℕ Refusal} {r : ℕ} → WritePromise h ls old.file new.file answer
     → Counts (write_meaning answer) (λ n. n) old.count new.count r → AfterWrite h ls old new r
 after_write h ls old new promise counts =
     record { counted = counts_told length (write_into old.file h ls) promise.answer_is (λ n. n) length (λ bytes. refl) old.count counts; file_is = promise.file_is }
 
-pub after-segment : (v : Service) (ls : Lists) (old new : SegmentLent) {answer : SegmentAnswer} {r : ℕ} → SegmentPromise v ls old.columns new.columns answer
+pub after-segment : (v : Service) (ls : Lists) (old new : SegmentLent) {answer : Result ℕ Refusal} {r : ℕ} → SegmentPromise v ls old.columns new.columns answer
     → Counts (segment_meaning answer) (λ n. n) old.count new.count r → AfterSegment v ls old new r
 after-segment v ls old new h counts =
     record { counted = counts_told length (segment_answer v ls old) h.answer_is (λ n. n) length (λ ss. refl) old.count counts; columns_are = h.columns_are }
@@ -84,7 +79,7 @@ unfolding corner_number count_of corners_in
 corner_number_lem open_strip = refl
 corner_number_lem (bounded ls) = refl
 
-pub after-corners : (k : ℕ) (ls : Lists) (old new : CornersLent) {answer : CornersAnswer} {r : ℕ} → CornersPromise k ls old.ps old.qs old.ds new.ps new.qs new.ds answer
+pub after-corners : (k : ℕ) (ls : Lists) (old new : CornersLent) {answer : Result (Option ℕ) Refusal} {r : ℕ} → CornersPromise k ls old.ps old.qs old.ds new.ps new.qs new.ds answer
     → Counts (corners_meaning answer) corner_number old.count new.count r → AfterCorners k ls old new r
 after-corners k ls old new h counts =
     record {
@@ -94,7 +89,7 @@ after-corners k ls old new h counts =
       ds_are = h.ds_are;
     }
 
-pub after-preview : (v : Service) (ls : Lists) (r : Range) (old new : PreviewLent) {answer : PreviewAnswer} {number : ℕ} → PreviewPromise v ls r answer
+pub after-preview : (v : Service) (ls : Lists) (r : Range) (old new : PreviewLent) {answer : Result EffectOfCode Refusal} {number : ℕ} → PreviewPromise v ls r answer
     → PreviewTold answer old.kind old.numbers new.kind new.numbers number → AfterPreview v ls r old new number
 after-preview v ls r old new h told =
     record {
@@ -103,7 +98,7 @@ after-preview v ls r old new h told =
       numbers_are = told.numbers_are ∙ ap (λ x. given x (λ e. outlook_numbers (effect_outlook e)) old.numbers) h.answer_is;
     }
 
-pub after-latest : (v : Service) (ls : Lists) (old new : LatestLent) {answer : LatestAnswer} {number : ℕ} → LatestPromise v ls old.ps old.qs old.ds new.ps new.qs new.ds answer
+pub after-latest : (v : Service) (ls : Lists) (old new : LatestLent) {answer : Result Trend Refusal} {number : ℕ} → LatestPromise v ls old.ps old.qs old.ds new.ps new.qs new.ds answer
     → LatestTold answer old.ranges old.numbers old.corners new.ranges new.numbers new.corners number → AfterLatest v ls old new number
 after-latest v ls old new h told =
     let below = latest_answer v ls old in
@@ -117,15 +112,15 @@ after-latest v ls old new h told =
       ds_are = h.ds_are;
     }
 
-pub after-report : (file : List ℕ) (old new : ReportLent) {answer : ReportAnswer} {r : ℕ} → ReportPromise file old.text new.text answer
+pub after-report : (file : List ℕ) (old new : ReportLent) {answer : Result ℕ Refusal} {r : ℕ} → ReportPromise file old.text new.text answer
     → Counts (report_meaning answer) (λ n. n) old.count new.count r → AfterReport file old new r
 after-report file old new h counts =
     record { counted = counts_told length (report_answer file old) h.answer_is (λ n. n) length (λ bytes. refl) old.count counts; text_is = h.text_is }
 
-pub after-add : (old : Panel) (a : ℕ) (r : Range) (new : Panel) {answer : AddAnswer} {number : ℕ} → AddPromise old a r answer new → number ≡ refusal (add_meaning answer) → AfterAdd old a r new number
+pub after-add : (old : Panel) (a : ℕ) (r : Range) (new : Panel) {answer : Result Unit Refusal} {number : ℕ} → AddPromise old a r answer new → number ≡ refusal (add_meaning answer) → AfterAdd old a r new number
 after-add old a r new h number = record { number_is = number_told (λ s. tt) (add_call old a r) h.answer_is number; panel_is = h.panel_is }
 
-pub after-head-ranges : (s : Panel) (a : ℕ) (old new : HeadRangesLent) {answer : HeadRangesAnswer} {r : ℕ} → HeadRangesPromise s a old.lists new.lists answer
+pub after-head-ranges : (s : Panel) (a : ℕ) (old new : HeadRangesLent) {answer : Result ℕ Refusal} {r : ℕ} → HeadRangesPromise s a old.lists new.lists answer
     → Counts (head_ranges_meaning answer) (λ n. n) old.count new.count r → AfterHeadRanges s a old new r
 after-head-ranges s a old new h counts =
     record {

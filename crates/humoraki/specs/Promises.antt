@@ -21,12 +21,11 @@ use Rattle.definitions.specs.Previews.{Effect, preview_call, kind_number, effect
 use Rattle.definitions.specs.Latest.{Trend, latest_call}
 use Rattle.definitions.specs.Report.{report_call}
 use Rattle.definitions.specs.Panels.{Panel}
-use Rattle.definitions.specs.PanelCalls.{head_ranges_call}
+use Rattle.definitions.specs.PanelCalls.{add_call, head_ranges_call}
 use Rattle.trace.specs.Promises.{read_into, write_into}
 use Rattle.drift.specs.Columns.{Columns, EachColumn, lengths}
 use Rattle.drift.specs.CornersPromise.{three_lengths}
 use Rattle.panel.specs.Promises.{lengths_of}
-use Rattle.panel.specs.Admissions.{AddedAs}
 use Rattle.answer_numbers.specs.Told.{Counts}
 
 -- ---- Read
@@ -146,8 +145,9 @@ pub record AfterReport (file : List ℕ) (old new : ReportLent) (r : ℕ) : Type
 
 -- ---- Add: the promise of the call below, by the number alone
 
-abbrev pub AfterAdd : Panel → ℕ → Range → Panel → ℕ → Type 0
-AfterAdd old a r new number = AddedAs old a r number new
+pub record AfterAdd (old : Panel) (a : ℕ) (r : Range) (new : Panel) (number : ℕ) : Type 0 where
+  pub number_is : number ≡ refusal (add_call old a r)
+  pub panel_is : new ≡ given (add_call old a r) (λ s. s) old
 
 -- ---- Head ranges
 

@@ -2,6 +2,7 @@
 --
 --     Accepted answer                                    the answer is accepted, with some result
 --     number_answer, counted-mean                         what a number and a count tell, 0 being acceptance; after a call with a count that is the call's answer
+--     preview-above, latest-above                         no number of Preview or Latest is 0
 --     read-zero, write-zero, segment-zero, corners-zero, preview-zero, latest-zero, report-zero, add-zero, head_ranges-zero   of each call
 --
 -- Assumes nothing.
@@ -90,13 +91,18 @@ unfolding corners_call corner_rows list_rows
 corners-zero {k} {ls} {old} h =
     zero-exactly (corners_answer k ls old) (call-above _ _ (omega arith, (omega arith, (omega arith, Numbered-append (ranges_rows none (ranges_of ls)) (count_rows k ls) (ranges-numbered none (ranges_of ls)) (omega arith, tt))))) h.counted.number_is
 
+pub preview-above : (v : Service) (ls : Lists) (r : Range) (n : ℕ) → preview_answer v ls r ≡ refused n → 0 < n
+preview-above v ls r n e = call-above (preview_rows v ls r) (effect_on v ls r) (segment-numbered [] v (longer ls r)) n (sym (preview_by_rows v ls r) ∙ e)
+
 pub preview-zero : {v : Service} {ls : Lists} {r : Range} {old new : PreviewLent} {number : ℕ} → AfterPreview v ls r old new number → (number ≡ 0) ↔ Accepted (preview_answer v ls r)
-preview-zero {v} {ls} {r} h =
-    zero-exactly (preview_answer v ls r) (λ n e. call-above (preview_rows v ls r) (effect_on v ls r) (segment-numbered [] v (longer ls r)) n (sym (preview_by_rows v ls r) ∙ e)) h.number_is
+preview-zero {v} {ls} {r} h = zero-exactly (preview_answer v ls r) (preview-above v ls r) h.number_is
+
+pub latest-above : (v : Service) (ls : Lists) (old : LatestLent) (n : ℕ) → latest_answer v ls old ≡ refused n → 0 < n
+unfolding latest_call latest_rows
+latest-above v ls old = call-above _ _ (service-numbered corner_room (three_lengths old.ps old.qs old.ds) v ls)
 
 pub latest-zero : {v : Service} {ls : Lists} {old new : LatestLent} {r : ℕ} → AfterLatest v ls old new r → (r ≡ 0) ↔ Accepted (latest_answer v ls old)
-unfolding latest_call latest_rows
-latest-zero {v} {ls} {old} h = zero-exactly (latest_answer v ls old) (call-above _ _ (service-numbered corner_room (three_lengths old.ps old.qs old.ds) v ls)) h.number_is
+latest-zero {v} {ls} {old} h = zero-exactly (latest_answer v ls old) (latest-above v ls old) h.number_is
 
 pub report-zero : {file : List ℕ} {old new : ReportLent} {r : ℕ} → AfterReport file old new r → (r ≡ 0) ↔ Accepted (report_answer file old)
 unfolding report_call

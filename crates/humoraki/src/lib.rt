@@ -44,7 +44,7 @@ pub extern "C" fn humoraki_write(
     ensures { AfterWrite (record { address = address; service = record { level = level; direction = direction; step = step } }) (record { times = times.entry.now; lows = lows.now; highs = highs.now }) (record { file = file.entry.now; count = count.old }) (record { file = file.exit.now; count = count.new }) result }
 {
     let answer = trace::write(address, level, direction, step, times, lows, highs, file);
-    answer_numbers::tell_write(answer, count)
+    answer_numbers::tell_count(answer, count)
 }
 
 // The segments of a trace, and their count.
@@ -90,7 +90,7 @@ pub extern "C" fn humoraki_segment(
         somes,
         alls,
     );
-    answer_numbers::tell_segment(answer, count)
+    answer_numbers::tell_count(answer, count)
 }
 
 // The corners of the fit of the segment then running after the first k ranges, and their count, which is 0 where the fit is open.
@@ -178,7 +178,7 @@ pub extern "C" fn humoraki_report(file: &[u8], text: &mut [u8], count: &mut usiz
     ensures { AfterReport file.now (record { text = text.entry.now; count = count.old }) (record { text = text.exit.now; count = count.new }) result }
 {
     let answer = report_text::report(file, text);
-    answer_numbers::tell_report(answer, count)
+    answer_numbers::tell_count(answer, count)
 }
 
 // One range more of one head, on a panel of many.
@@ -221,5 +221,5 @@ pub extern "C" fn humoraki_head_ranges(
     let answer = panel::head_ranges(
         entries, addresses, times, lows, highs, address, into_times, into_lows, into_highs,
     );
-    answer_numbers::tell_head_ranges(answer, count)
+    answer_numbers::tell_count(answer, count)
 }

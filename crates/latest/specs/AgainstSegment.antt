@@ -6,7 +6,8 @@
 --     agrees_outlook         where it has as many, its outlook has the last eight numbers of the last row
 --
 -- Assumes nothing.
-use Rattle.std.specs.Prelude.{◌≡◌, ◌↔◌, false, ℕ, suc, ◌-◌, ◌<◌, ◌≤◌, ℤ, length, get_or, drop}
+use Rattle.definitions.specs.declared.refusals.Refusal.{Refusal}
+use Rattle.std.specs.Prelude.{◌≡◌, ◌↔◌, false, ℕ, suc, ◌-◌, ◌<◌, ◌≤◌, ℤ, length, get_or, drop, Ok, Result}
 use Rattle.std.proofs.Math.Path.{refl}
 use Rattle.std.proofs.Common.{sym, ap, ◌∙◌, subst, arith, length-append, drop_at}
 use mathlib.Core.List.{List, [], ◌∷◌, ◌++◌, flatten, drop_last}
@@ -31,16 +32,12 @@ use Rattle.splits.specs.Segments.{segments_of-at}
 use Rattle.lines.specs.Theorems.{segments_split}
 use Rattle.lines.specs.LatestTrend.{latest_longest}
 use Rattle.values.specs.Meanings.{outlook_of}
-use Rattle.drift.specs.declared.SegmentAnswer.{SegmentAnswer}
-use Rattle.drift.specs.declared.SegmentAnswer.TheVariants.{Accepted as Segmented}
 use Rattle.drift.specs.Columns.{Columns, lengths, row_at}
 use Rattle.drift.specs.SegmentPromise.{segment_meaning, SegmentPromise}
 use Rattle.drift.specs.Refusals.{segment_refused}
 use Rattle.drift.specs.GivenColumns.{count-is, row-at}
 use Rattle.drift.specs.CornersPromise.{three_lengths}
 use Rattle.latest.specs.declared.Trend.{Trend}
-use Rattle.latest.specs.declared.LatestAnswer.{LatestAnswer}
-use Rattle.latest.specs.declared.LatestAnswer.TheVariants.{Accepted}
 use Rattle.latest.specs.LatestPromise.{latest_meaning, LatestPromise}
 use Rattle.latest.specs.Refusals.{latest-refused}
 use Rattle.latest.specs.GivenTrends.{last_ranges, taken, ordered, run_is, run_length, told_outlook}
@@ -49,8 +46,8 @@ pub rows_same : (ns ms : List ℕ) (v : Service) (ls : Lists) → too_short corn
 unfolding latest_rows segment_rows list_rows
 rows_same ns ms v ls e f = rw (e, f) refl
 
-pub agrees-refused : {v : Service} {ls : Lists} {ps qs ds ps' qs' ds' : List ℤ} {answer : LatestAnswer} → LatestPromise v ls ps qs ds ps' qs' ds' answer
-    → {old new : Columns} {answer' : SegmentAnswer} → SegmentPromise v ls old new answer'
+pub agrees-refused : {v : Service} {ls : Lists} {ps qs ds ps' qs' ds' : List ℤ} {answer : Result Trend Refusal} → LatestPromise v ls ps qs ds ps' qs' ds' answer
+    → {old new : Columns} {answer' : Result ℕ Refusal} → SegmentPromise v ls old new answer'
     → too_short corner_room (three_lengths ps qs ds) ≡ false → too_short segment_room (lengths old) ≡ false → (n : ℕ) → (latest_meaning answer ≡ refused n) ↔ (segment_meaning answer' ≡ refused n)
 agrees-refused {v} {ls} {ps} {qs} {ds} promise {old} segmented room room' n =
     let same = rows_same (three_lengths ps qs ds) (lengths old) v ls room room' in (
@@ -58,8 +55,8 @@ agrees-refused {v} {ls} {ps} {qs} {ds} promise {old} segmented room room' n =
       λ e. (latest-refused promise n).1 (subst (FirstAt n) (sym same) ((segment_refused segmented n).0 e)),
     )
 
-module _ {v : Service} {ls : Lists} {ps qs ds ps' qs' ds' : List ℤ} {t : Trend} (promise : LatestPromise v ls ps qs ds ps' qs' ds' (Accepted t))
-    {old new : Columns} {m : ℕ} (segmented : SegmentPromise v ls old new (Segmented m)) (some : 0 < length ls.times) where
+module _ {v : Service} {ls : Lists} {ps qs ds ps' qs' ds' : List ℤ} {t : Trend} (promise : LatestPromise v ls ps qs ds ps' qs' ds' (Ok t))
+    {old new : Columns} {m : ℕ} (segmented : SegmentPromise v ls old new (Ok m)) (some : 0 < length ls.times) where
   abbrev rs : List Range
   rs = ranges_of ls
 

@@ -11,7 +11,9 @@
 --     calls_fewest           every split has at least as many runs
 --
 -- Assumes nothing.
-use Rattle.std.specs.Prelude.{◌≡◌, refl, Bool, true, false, List, [], ◌∷◌, reverse, ℕ, zero, suc, ◌-◌, ◌<◌, ◌≤◌, ltb, ℤ, length, take}
+use Rattle.definitions.specs.Refusals.{refusal_number}
+use Rattle.definitions.specs.declared.refusals.Refusal.{Refusal}
+use Rattle.std.specs.Prelude.{◌≡◌, refl, Bool, true, false, List, [], ◌∷◌, reverse, ℕ, zero, suc, ◌-◌, ◌<◌, ◌≤◌, ltb, ℤ, length, take, Err, Ok, Result}
 use Rattle.std.proofs.Common.{sym, ap, ◌∙◌, subst, le_refl, arith, ltb-true, ltb-false}
 use Rattle.std.proofs.Math.Seq.{length-take-le}
 use Rattle.definitions.specs.Spans.{most_ranges, corner_room}
@@ -29,14 +31,11 @@ use Rattle.splits.specs.Effects.{segments_of-length}
 use Rattle.lines.specs.Theorems.{segments_fewest}
 use Rattle.lines.specs.LatestTrend.{rest_of, FromEnd, none_left, latest_off, from_end-split, from_end-count}
 use Rattle.drift_laws.specs.FirstRanges.{first-accepted}
-use Rattle.drift.specs.declared.SegmentAnswer.TheVariants.{Accepted as Segmented}
 use Rattle.drift.specs.Columns.{Columns}
 use Rattle.drift.specs.SegmentPromise.{SegmentPromise}
 use Rattle.drift.specs.GivenColumns.{count-is}
 use Rattle.drift.specs.CornersPromise.{three_lengths}
 use Rattle.latest.specs.declared.Trend.{Trend}
-use Rattle.latest.specs.declared.LatestAnswer.{LatestAnswer}
-use Rattle.latest.specs.declared.LatestAnswer.TheVariants.{Accepted, Refused}
 use Rattle.latest.specs.LatestPromise.{latest_meaning, LatestPromise}
 use Rattle.latest.specs.Refusals as Refusals
 use Rattle.latest.specs.GivenTrends.{last_ranges, taken_good, taken, taken_few, ordered, run_is, run_length, run_good}
@@ -46,7 +45,7 @@ without n ls = first_entries (length ls.times - n) ls
 
 pub data CallsFromEnd (v : Service) : Lists → List Trend → Type 0 where
   nothing_left : {ls : Lists} → length ls.times ≡ 0 → CallsFromEnd v ls []
-  one_call : {ls : Lists} {ps qs ds ps' qs' ds' : List ℤ} {t : Trend} {trends : List Trend} → 0 < length ls.times → LatestPromise v ls ps qs ds ps' qs' ds' (Accepted t) → CallsFromEnd v (without t.ranges ls) trends → CallsFromEnd v ls (t ∷ trends)
+  one_call : {ls : Lists} {ps qs ds ps' qs' ds' : List ℤ} {t : Trend} {trends : List Trend} → 0 < length ls.times → LatestPromise v ls ps qs ds ps' qs' ds' (Ok t) → CallsFromEnd v (without t.ranges ls) trends → CallsFromEnd v ls (t ∷ trends)
 
 abbrev pub runs_in : Lists → List Trend → List (List Range)
 runs_in ls [] = []
@@ -54,12 +53,12 @@ runs_in ls (t ∷ trends) = last_ranges t.ranges ls ∷ runs_in (without t.range
 
 -- ---- the next call
 
-module _ {v : Service} {ls : Lists} {ps qs ds ps' qs' ds' : List ℤ} {t : Trend} (promise : LatestPromise v ls ps qs ds ps' qs' ds' (Accepted t)) where
+module _ {v : Service} {ls : Lists} {ps qs ds ps' qs' ds' : List ℤ} {t : Trend} (promise : LatestPromise v ls ps qs ds ps' qs' ds' (Ok t)) where
   left_length : length (without t.ranges ls).times ≡ length ls.times - t.ranges
   unfolding first_entries
   left_length = length-take-le (length ls.times - t.ranges) ls.times (omega arith)
 
-  pub rest_accepted : {ps₁ qs₁ ds₁ ps₁' qs₁' ds₁' : List ℤ} {answer : LatestAnswer} → too_short corner_room (three_lengths ps₁ qs₁ ds₁) ≡ false
+  pub rest_accepted : {ps₁ qs₁ ds₁ ps₁' qs₁' ds₁' : List ℤ} {answer : Result Trend Refusal} → too_short corner_room (three_lengths ps₁ qs₁ ds₁) ≡ false
       → LatestPromise v (without t.ranges ls) ps₁ qs₁ ds₁ ps₁' qs₁' ds₁' answer → (n : ℕ) → ¬ (latest_meaning answer ≡ refused n)
   rest_accepted {ps₁} {qs₁} {ds₁} room next n e =
       let rest = first-accepted (taken promise) (length ls.times - t.ranges) (omega arith) in
@@ -73,9 +72,9 @@ module _ {v : Service} {ls : Lists} {ps qs ds ps' qs' ds' : List ℤ} {t : Trend
       some_told [] e g = absurd g
       some_told (r ∷ rs) e g = omega arith
 
-refused-meaning : (n : ℕ) → refused n ≡ latest_meaning (Refused n)
+refused-meaning : (e : Refusal) → refused (refusal_number e) ≡ latest_meaning (Err e)
 unfolding latest_meaning
-refused-meaning n = refl
+refused-meaning e = refl
 
 -- ---- all calls
 
@@ -118,14 +117,14 @@ module _ {v : Service} {ls : Lists} {trends : List Trend} (calls : CallsFromEnd 
   pub calls_fewest : (runs : List (List Range)) → Split HasLine (ranges_of ls) runs → length trends ≤ length runs
   calls_fewest runs split = omega (arith, as_many, segments_fewest (ranges_of ls) calls_ordered runs split)
 
-  pub calls_count : {old new : Columns} {m : ℕ} → SegmentPromise v ls old new (Segmented m) → length trends ≡ m
+  pub calls_count : {old new : Columns} {m : ℕ} → SegmentPromise v ls old new (Ok m) → length trends ≡ m
   calls_count segmented = as_many ∙ sym (count-is segmented ∙ segments_of-length v (ranges_of ls))
 
 -- ---- there are such calls
 
 -- what a callee gives on any lists, with these slices lent each time
 abbrev pub Answers : Service → List ℤ → List ℤ → List ℤ → Type 0
-Answers v ps qs ds = (ls : Lists) → (ps' : List ℤ) × (qs' : List ℤ) × (ds' : List ℤ) × (answer : LatestAnswer) × LatestPromise v ls ps qs ds ps' qs' ds' answer
+Answers v ps qs ds = (ls : Lists) → (ps' : List ℤ) × (qs' : List ℤ) × (ds' : List ℤ) × (answer : Result Trend Refusal) × LatestPromise v ls ps qs ds ps' qs' ds' answer
 
 module _ {v : Service} {ps qs ds : List ℤ} (room : too_short corner_room (three_lengths ps qs ds) ≡ false) (answers : Answers v ps qs ds) where
   -- of lists on which some call was accepted
@@ -136,14 +135,14 @@ module _ {v : Service} {ps qs ds : List ℤ} (room : too_short corner_room (thre
       → (ls : Lists) → Taken ls → length ls.times ≤ suc most → (trends : List Trend) × CallsFromEnd v ls trends
   one_more most fewer ls taken-lists h = by (ltb 0 (length ls.times)) refl
     where
-      accepted_here : (answer : LatestAnswer) {ps' qs' ds' : List ℤ} → 0 < length ls.times → LatestPromise v ls ps qs ds ps' qs' ds' answer → (trends : List Trend) × CallsFromEnd v ls trends
-      accepted_here (Accepted t) some promise =
+      accepted_here : (answer : Result Trend Refusal) {ps' qs' ds' : List ℤ} → 0 < length ls.times → LatestPromise v ls ps qs ds ps' qs' ds' answer → (trends : List Trend) × CallsFromEnd v ls trends
+      accepted_here (Ok t) some promise =
           let left = left_length promise in
           let shorter = rest_shorter promise some in
           let few = taken-lists.2 in
           let (trends, rest) = fewer (without t.ranges ls) (taken-lists.0, first-accepted taken-lists.1 (length ls.times - t.ranges) (omega arith), omega (arith, left, few)) (omega (arith, shorter, h)) in
           (t ∷ trends, one_call some promise rest)
-      accepted_here (Refused n) some promise =
+      accepted_here (Err n) some promise =
           let none = (first_row-accepted _).0 ((latest-accepted (three_lengths ps qs ds) v ls).1 (room, taken-lists.0, taken-lists.1, taken-lists.2)) in
           refused_not_accepted (refused-meaning n ∙ (Refusals.latest-accepted promise).1 none)
 
@@ -155,5 +154,5 @@ module _ {v : Service} {ps qs ds : List ℤ} (room : too_short corner_room (thre
   within zero ls taken-lists h = ([], nothing_left {ls = ls} (omega (arith, h)))
   within (suc most) ls taken-lists h = one_more most (within most) ls taken-lists h
 
-  pub calls_exist : {ls : Lists} {ps' qs' ds' : List ℤ} {t : Trend} → LatestPromise v ls ps qs ds ps' qs' ds' (Accepted t) → (trends : List Trend) × CallsFromEnd v ls trends
+  pub calls_exist : {ls : Lists} {ps' qs' ds' : List ℤ} {t : Trend} → LatestPromise v ls ps qs ds ps' qs' ds' (Ok t) → (trends : List Trend) × CallsFromEnd v ls trends
   calls_exist {ls} promise = within (length ls.times) ls (taken_good promise, taken promise, taken_few promise) (le_refl (length ls.times))

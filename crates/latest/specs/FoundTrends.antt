@@ -3,11 +3,11 @@
 --     Ready              where no row holds and there are two ranges or more: what finding the trend takes
 --     TrendGiven         the trend that is told, and the corners in the slices
 --     fit-corners, short_open   two ranges or more have corners; fewer are open, without corners
---     polygon_at, line_at   the run that begins where the latest run does goes up to the last range: its polygon, and that it has a line
+--     polygon_there, polygon_at, line_at   the run that begins where the latest run does goes up to the last range: its polygon, and that it has a line
 --     trend_given        what its outlook and its listed corners tell is the trend
 --
 -- Assumes nothing.
-use Rattle.std.specs.Prelude.{◌≡◌, refl, List, [], ◌∷◌, ℕ, ◌+◌, ◌-◌, ◌<◌, ◌≤◌, ℤ, get_or}
+use Rattle.std.specs.Prelude.{◌≡◌, refl, Option, None, Some, IsSome, List, [], ◌∷◌, ℕ, ◌+◌, ◌-◌, ◌<◌, ◌≤◌, ℤ, get_or}
 use Rattle.std.proofs.Math.Path.{sym, ap, subst}
 use Rattle.std.proofs.Common.{◌∙◌, le_refl, arith}
 use Rattle.std.proofs.Math.ListN.{length}
@@ -29,8 +29,9 @@ use Rattle.drift_laws.specs.RunsByPlace.{run, run_length}
 use Rattle.values.specs.declared.Outlook.{Outlook}
 use Rattle.values.specs.Meanings.{line_of, outlook_of}
 use Rattle.values.specs.Reach.{look_ahead}
+use Rattle.fit.specs.declared.polygon.Polygon.{Polygon}
 use Rattle.fit.specs.declared.run.Reach.{Reach}
-use Rattle.fit.specs.RunsFrom.{RunFrom, PolygonAt}
+use Rattle.fit.specs.RunsFrom.{RunFrom, PolygonAt, polygon_some, polygon_none}
 use Rattle.fit.specs.RunOutlooks.{run_outlook}
 use Rattle.corner_list.specs.RunCorners.{RunCorners}
 use Rattle.drift.specs.Filling.{Tried}
@@ -76,27 +77,35 @@ module _ {v : Service} {ls : Lists} (tried : Tried v ls) (more : 2 ≤ length ls
   end_is : r.end ≡ n
   end_is = run_whole a (le_refl n) line_at f
 
-  pub polygon_at : PolygonAt ls up down s n r.polygon
-  polygon_at = subst (λ e. PolygonAt ls up down s e r.polygon) end_is (f.polygon_is (omega (arith, two, end_is)))
+  pub polygon_there : IsSome r.polygon
+  polygon_there = by r.polygon refl
+    where
+      by : (o : Option Polygon) → r.polygon ≡ o → IsSome o
+      by None e = let one = polygon_none e f.polygon_is in absurd (omega (arith, two, end_is))
+      by (Some x) e = refl
+
+  pub polygon_at : {x : Polygon} → r.polygon ≡ Some x → PolygonAt ls up down s n x
+  polygon_at {x} e = subst (λ e. PolygonAt ls up down s e x) end_is (polygon_some e f.polygon_is).1
 
   corners_are : corners (run ls s n) ≡ corners_in (fit_of (latest_run (ranges_of ls)))
   corners_are = sym (fit-corners (run ls s n) (omega (arith, two, run_length ls a s n (le_refl n)))) ∙ ap (λ rs. corners_in (fit_of rs)) (sym z.run_is)
 
-  outlook_is : (o : Outlook) → outlook_of o ≡ look_ahead (line_of r.polygon.slow) (line_of r.polygon.fast) v (get_or ls.times (n - 1) 0) → outlook_of o ≡ outlook v (latest_run (ranges_of ls))
-  outlook_is o e =
-      let seen = run_outlook a (le_refl n) f (omega (arith, two, end_is)) v tried.good in
-      e
-      ∙ ap (λ k. look_ahead (line_of r.polygon.slow) (line_of r.polygon.fast) v (get_or ls.times (k - 1) 0)) (sym end_is)
-      ∙ sym seen
-      ∙ ap (λ e. outlook v (run ls s e)) end_is
-      ∙ ap (outlook v) (sym z.run_is)
+  module _ {x : Polygon} (e : r.polygon ≡ Some x) where
+    outlook_is : (o : Outlook) → outlook_of o ≡ look_ahead (line_of x.slow) (line_of x.fast) v (get_or ls.times (n - 1) 0) → outlook_of o ≡ outlook v (latest_run (ranges_of ls))
+    outlook_is o seen =
+        let (more, p) = polygon_some e f.polygon_is in
+        seen
+        ∙ ap (λ k. look_ahead (line_of x.slow) (line_of x.fast) v (get_or ls.times (k - 1) 0)) (sym end_is)
+        ∙ sym (run_outlook a (le_refl n) f more v tried.good p)
+        ∙ ap (λ e. outlook v (run ls s e)) end_is
+        ∙ ap (outlook v) (sym z.run_is)
 
-  pub trend_given : {o : Outlook} {ps qs ds ps' qs' ds' : List ℤ} {c : ℕ} → outlook_of o ≡ look_ahead (line_of r.polygon.slow) (line_of r.polygon.fast) v (get_or ls.times (n - 1) 0)
-      → RunCorners ls s n ps qs ds ps' qs' ds' c → TrendGiven v ls ps qs ds ps' qs' ds' (record { ranges = n - s; outlook = o; corners = c })
-  unfolding trend_of
-  trend_given {o} {ps} {qs} {ds} {ps'} {qs'} {ds'} e listed =
-      let ranges_are = sym (run_length ls a s n (le_refl n)) ∙ ap length (sym z.run_is) in
-      record {
-        told = λ i. record { ranges = ranges_are i; outlook = outlook_is o e i; corners = (listed.count ∙ ap length corners_are) i };
-        rows = subst (λ ks. RowsFirst ks ps qs ds ps' qs' ds') corners_are listed.rows;
-      }
+    pub trend_given : {o : Outlook} {ps qs ds ps' qs' ds' : List ℤ} {c : ℕ} → outlook_of o ≡ look_ahead (line_of x.slow) (line_of x.fast) v (get_or ls.times (n - 1) 0)
+        → RunCorners ls s n ps qs ds ps' qs' ds' c → TrendGiven v ls ps qs ds ps' qs' ds' (record { ranges = n - s; outlook = o; corners = c })
+    unfolding trend_of
+    trend_given {o} {ps} {qs} {ds} {ps'} {qs'} {ds'} seen listed =
+        let ranges_are = sym (run_length ls a s n (le_refl n)) ∙ ap length (sym z.run_is) in
+        record {
+          told = λ i. record { ranges = ranges_are i; outlook = outlook_is o seen i; corners = (listed.count ∙ ap length corners_are) i };
+          rows = subst (λ ks. RowsFirst ks ps qs ds ps' qs' ds') corners_are listed.rows;
+        }

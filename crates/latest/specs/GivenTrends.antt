@@ -9,7 +9,8 @@
 --     told_outlook           the outlook that is told is theirs
 --
 -- Assumes nothing.
-use Rattle.std.specs.Prelude.{◌≡◌, false, List, ℕ, ◌-◌, ◌<◌, ◌≤◌, ℤ, length, take, drop}
+use Rattle.definitions.specs.declared.refusals.Refusal.{Refusal}
+use Rattle.std.specs.Prelude.{◌≡◌, false, List, ℕ, ◌-◌, ◌<◌, ◌≤◌, ℤ, length, take, drop, Ok, Result}
 use Rattle.std.proofs.Common.{sym, ◌∙◌, subst, arith, drop_at, length-take-le}
 use Rattle.std.proofs.Math.Path.{ap}
 use Rattle.definitions.specs.Spans.{most_ranges, corner_room}
@@ -31,18 +32,16 @@ use Rattle.values.specs.Meanings.{outlook_of}
 use Rattle.drift.specs.GivenLines.{LinesFilled}
 use Rattle.drift.specs.CornersPromise.{three_lengths}
 use Rattle.latest.specs.declared.Trend.{Trend}
-use Rattle.latest.specs.declared.LatestAnswer.{LatestAnswer}
-use Rattle.latest.specs.declared.LatestAnswer.TheVariants.{Accepted}
 use Rattle.latest.specs.LatestPromise.{told_of, trend_meaning, latest_meaning, LatestPromise}
 
 abbrev pub last_ranges : ℕ → Lists → List Range
 last_ranges n ls = drop (length ls.times - n) (ranges_of ls)
 
-pub slices : {v : Service} {ls : Lists} {ps qs ds ps' qs' ds' : List ℤ} {answer : LatestAnswer} → LatestPromise v ls ps qs ds ps' qs' ds' answer
+pub slices : {v : Service} {ls : Lists} {ps qs ds ps' qs' ds' : List ℤ} {answer : Result Trend Refusal} → LatestPromise v ls ps qs ds ps' qs' ds' answer
     → LinesFilled (latest_call (three_lengths ps qs ds) v ls) (λ t. t.corners) ps qs ds ps' qs' ds'
 slices promise = record { ps_are = promise.ps_are; qs_are = promise.qs_are; ds_are = promise.ds_are }
 
-module _ {v : Service} {ls : Lists} {ps qs ds ps' qs' ds' : List ℤ} {t : Trend} (promise : LatestPromise v ls ps qs ds ps' qs' ds' (Accepted t)) where
+module _ {v : Service} {ls : Lists} {ps qs ds ps' qs' ds' : List ℤ} {t : Trend} (promise : LatestPromise v ls ps qs ds ps' qs' ds' (Ok t)) where
   abbrev ns : List ℕ
   ns = three_lengths ps qs ds
 

@@ -6,7 +6,9 @@
 --     promise_trend        none holds, and the trend is found
 --
 -- Assumes nothing.
-use Rattle.std.specs.Prelude.{ℕ, ◌<◌, ◌≡◌, Bool, ℤ}
+use Rattle.definitions.specs.declared.refusals.Refusal.{Refusal}
+use Rattle.definitions.specs.Refusals.{refusal_number}
+use Rattle.std.specs.Prelude.{ℕ, ◌<◌, ◌≡◌, Bool, ℤ, Err, Ok}
 use Rattle.std.proofs.Math.Path.{sym, ap}
 use Rattle.std.proofs.Common.{ap₂, ◌∙◌, arith}
 use mathlib.Core.List.{List, [], ◌++◌, map}
@@ -29,7 +31,6 @@ use Rattle.values.specs.declared.Outlook.TheVariants.{Open}
 use Rattle.values.specs.Meanings.{outlook_of}
 use Rattle.drift.specs.CornersPromise.{three_lengths}
 use Rattle.latest.specs.declared.Trend.{Trend}
-use Rattle.latest.specs.declared.LatestAnswer.TheVariants.{Accepted, Refused}
 use Rattle.latest.specs.LatestPromise.{told_of, latest_meaning, LatestPromise}
 use Rattle.latest.specs.FoundTrends.{TrendGiven, short_open}
 
@@ -47,7 +48,7 @@ module _ (v : Service) (ls : Lists) (ps qs ds : List ℤ) where
   unfolding latest_call
   called e = ap (λ x. x >>= λ ok. accepted (trend_of v found)) (sym e)
 
-  pub promise_refused : (n : ℕ) → firstRow (latest_rows ns v ls) ≡ refused n → LatestPromise v ls ps qs ds ps qs ds (Refused n)
+  pub promise_refused : (n : Refusal) → firstRow (latest_rows ns v ls) ≡ refused (refusal_number n) → LatestPromise v ls ps qs ds ps qs ds (Err n)
   unfolding latest_meaning ◌>>=◌ filled
   promise_refused n e =
       record {
@@ -65,7 +66,7 @@ module _ (v : Service) (ls : Lists) (ps qs ds : List ℤ) where
     slice_filled number old e =
         e ∙ ap (λ n. map number (corners_in (fit_of found)) ++ drop n old) (sym (length-map (corners_in (fit_of found)) number)) ∙ ap (λ x. filled x (λ t. map number t.corners) old) (called none)
 
-    pub promise_trend : {ps' qs' ds' : List ℤ} {t : Trend} → TrendGiven v ls ps qs ds ps' qs' ds' t → LatestPromise v ls ps qs ds ps' qs' ds' (Accepted t)
+    pub promise_trend : {ps' qs' ds' : List ℤ} {t : Trend} → TrendGiven v ls ps qs ds ps' qs' ds' t → LatestPromise v ls ps qs ds ps' qs' ds' (Ok t)
     unfolding latest_meaning ◌>>=◌
     promise_trend g =
         record {
@@ -75,7 +76,7 @@ module _ (v : Service) (ls : Lists) (ps qs ds : List ℤ) where
           ds_are = slice_filled (λ l. l.d) ds g.rows.d_is;
         }
 
-    pub promise_open : AcceptedLists ls → length ls.times < 2 → LatestPromise v ls ps qs ds ps qs ds (Accepted (record { ranges = length ls.times; outlook = Open; corners = 0 }))
+    pub promise_open : AcceptedLists ls → length ls.times < 2 → LatestPromise v ls ps qs ds ps qs ds (Ok (record { ranges = length ls.times; outlook = Open; corners = 0 }))
     unfolding outlook_of trend_of
     promise_open a few =
         let long = ranges_length ls a.same in

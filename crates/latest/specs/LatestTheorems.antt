@@ -22,7 +22,9 @@
 --
 -- `CutFromEnd` is about cutting a whole trace from its end, `AgainstSegment` about the last segment.
 -- Assumes nothing.
-use Rattle.std.specs.Prelude.{◌≡◌, refl, ◌↔◌, Bool, true, false, ℕ, ◌+◌, ◌-◌, ◌*◌, ◌<◌, ◌≤◌, ltb, ℤ, get_or, take, drop}
+use Rattle.definitions.specs.declared.refusals.Refusal.{Refusal}
+use Rattle.definitions.specs.Refusals.{refusal_number}
+use Rattle.std.specs.Prelude.{◌≡◌, refl, ◌↔◌, Bool, true, false, ℕ, ◌+◌, ◌-◌, ◌*◌, ◌<◌, ◌≤◌, ltb, ℤ, get_or, take, drop, Err, Ok}
 use Rattle.std.proofs.Math.Path.{sym, ap}
 use Rattle.std.proofs.Common.{◌∙◌, subst, ltb-true, ltb-false, length-drop, take-append-drop}
 use mathlib.Core.List.{List, [], ◌∷◌, ◌++◌, Nodup}
@@ -56,7 +58,6 @@ use Rattle.values.specs.Meanings.{outlook_of}
 use Rattle.drift.specs.GivenLines.{given_lines, lines_given, lines_past, lines_kept, lines_none, corners_about}
 use Rattle.drift.specs.CornersPromise.{three_lengths}
 use Rattle.latest.specs.declared.Trend.{Trend}
-use Rattle.latest.specs.declared.LatestAnswer.TheVariants.{Accepted, Refused}
 use Rattle.latest.specs.LatestPromise.{told_of, latest_meaning, LatestPromise}
 use Rattle.latest.specs.LatestStarts.{rest-run}
 use Rattle.latest.specs.FoundTrends.{fit-corners, short_open}
@@ -65,7 +66,7 @@ use Rattle.latest.specs.GivenTrends.{last_ranges, slices, taken_good, taken, ord
 not_open : {A : Type 0} {v : Service} {rs : List Range} {from : ℕ} {o : OutlookTerm} → LinesOf v rs from o → o ≡ open_strip → A
 not_open l e = let f = sym e ∙ l.is in let z : ◌≡◌ {A = ℕ} 0 1 = cc in absurd (omega arith)
 
-module _ {v : Service} {ls : Lists} {ps qs ds ps' qs' ds' : List ℤ} {t : Trend} (promise : LatestPromise v ls ps qs ds ps' qs' ds' (Accepted t)) where
+module _ {v : Service} {ls : Lists} {ps qs ds ps' qs' ds' : List ℤ} {t : Trend} (promise : LatestPromise v ls ps qs ds ps' qs' ds' (Ok t)) where
   abbrev rs : List Range
   rs = ranges_of ls
 
@@ -181,10 +182,10 @@ module _ {v : Service} {ls : Lists} {ps qs ds ps' qs' ds' : List ℤ} {t : Trend
 
 -- ---- refused
 
-module _ {v : Service} {ls : Lists} {ps qs ds ps' qs' ds' : List ℤ} {e : ℕ} (promise : LatestPromise v ls ps qs ds ps' qs' ds' (Refused e)) where
-  found_refused : latest_call (three_lengths ps qs ds) v ls ≡ refused e
+module _ {v : Service} {ls : Lists} {ps qs ds ps' qs' ds' : List ℤ} {e : Refusal} (promise : LatestPromise v ls ps qs ds ps' qs' ds' (Err e)) where
+  found_refused : latest_call (three_lengths ps qs ds) v ls ≡ refused (refusal_number e)
   unfolding latest_meaning
-  found_refused = bind-refused (latest_call (three_lengths ps qs ds) v ls) told_of e (sym promise.answer_is)
+  found_refused = bind-refused (latest_call (three_lengths ps qs ds) v ls) told_of (refusal_number e) (sym promise.answer_is)
 
   pub refused_kept : (ps' ≡ ps) × (qs' ≡ qs) × (ds' ≡ ds)
   refused_kept = lines_kept (slices promise) found_refused

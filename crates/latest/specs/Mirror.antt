@@ -7,7 +7,8 @@
 --     ring_mirrored            where there are two ranges or more, the corners of the image are those of the trace negated, in the same order, begun at the one of greatest slope (`TurnedRing`)
 --
 -- Assumes nothing.
-use Rattle.std.specs.Prelude.{◌≡◌, refl, List, [], ◌∷◌, ℕ, ◌<◌, ◌≤◌, ℤ, take}
+use Rattle.definitions.specs.declared.refusals.Refusal.{Refusal}
+use Rattle.std.specs.Prelude.{◌≡◌, refl, List, [], ◌∷◌, ℕ, ◌<◌, ◌≤◌, ℤ, take, Ok, Result}
 use Rattle.std.proofs.Math.Path.{sym, ap}
 use Rattle.std.proofs.Common.{◌∙◌, subst, arith}
 use Rattle.std.proofs.Math.ListN.{length, length-map}
@@ -35,8 +36,6 @@ use Rattle.lines.specs.LatestTrend.{rest_of, latest-suffix, latest_has_line, lat
 use Rattle.drift.specs.GivenLines.{given_lines}
 use Rattle.drift.specs.CornersPromise.{three_lengths}
 use Rattle.latest.specs.declared.Trend.{Trend}
-use Rattle.latest.specs.declared.LatestAnswer.{LatestAnswer}
-use Rattle.latest.specs.declared.LatestAnswer.TheVariants.{Accepted}
 use Rattle.latest.specs.LatestPromise.{Told, told_of, latest_meaning, LatestPromise}
 use Rattle.latest.specs.GivenTrends.{run_is}
 use Rattle.latest.specs.LatestTheorems.{given_corners, given_about}
@@ -87,7 +86,7 @@ module _ (v : Service) (ls : Lists) (ns ns' : List ℕ) (alike : too_short corne
 -- ---- the answers
 
 module _ {v : Service} {ls : Lists} {ps qs ds ps₁ qs₁ ds₁ ps' qs' ds' ps₁' qs₁' ds₁' : List ℤ} where
-  module _ {answer answer' : LatestAnswer} (promise : LatestPromise v ls ps qs ds ps₁ qs₁ ds₁ answer) (image : LatestPromise (mirrored_service v) (mirrored_lists ls) ps' qs' ds' ps₁' qs₁' ds₁' answer')
+  module _ {answer answer' : Result Trend Refusal} (promise : LatestPromise v ls ps qs ds ps₁ qs₁ ds₁ answer) (image : LatestPromise (mirrored_service v) (mirrored_lists ls) ps' qs' ds' ps₁' qs₁' ds₁' answer')
       (alike : too_short corner_room (three_lengths ps' qs' ds') ≡ too_short corner_room (three_lengths ps qs ds)) where
     pub latest_answer_mirrored : latest_meaning answer' ≡ (latest_meaning answer >>= λ t. accepted (mirrored_told t))
     unfolding ◌>>=◌
@@ -96,7 +95,7 @@ module _ {v : Service} {ls : Lists} {ps qs ds ps₁ qs₁ ds₁ ps' qs' ds' ps�
         ∙ latest_told_mirrored v ls (three_lengths ps qs ds) (three_lengths ps' qs' ds') alike
         ∙ sym (ap (λ x. x >>= λ t. accepted (mirrored_told t)) promise.answer_is ∙ then-then (latest_call (three_lengths ps qs ds) v ls) (λ t. accepted (told_of t)) (λ t. accepted (mirrored_told t)))
 
-  pub ring_mirrored : {t t' : Trend} (promise : LatestPromise v ls ps qs ds ps₁ qs₁ ds₁ (Accepted t)) (image : LatestPromise (mirrored_service v) (mirrored_lists ls) ps' qs' ds' ps₁' qs₁' ds₁' (Accepted t'))
+  pub ring_mirrored : {t t' : Trend} (promise : LatestPromise v ls ps qs ds ps₁ qs₁ ds₁ (Ok t)) (image : LatestPromise (mirrored_service v) (mirrored_lists ls) ps' qs' ds' ps₁' qs₁' ds₁' (Ok t'))
       → 2 ≤ length ls.times → TurnedRing (given_lines t.corners ps₁ qs₁ ds₁) (given_lines t'.corners ps₁' qs₁' ds₁')
   ring_mirrored {t} promise image two =
       let image-is = run_is image ∙ ap latest_run (ranges-mirrored ls) ∙ latest-mirrored (ranges_of ls) ∙ ap mirrored (sym (run_is promise)) in

@@ -5,7 +5,8 @@
 --     service-refused        refused with 4 for a level, a direction or a step outside its span, unless 8, 10 or 7 comes before
 --
 -- Assumes nothing.
-use Rattle.std.specs.Prelude.{◌≡◌, ◌↔◌, List, ℕ, ℤ}
+use Rattle.definitions.specs.declared.refusals.Refusal.{Refusal}
+use Rattle.std.specs.Prelude.{◌≡◌, ◌↔◌, List, ℕ, ℤ, Result}
 use Rattle.std.proofs.Math.Path.{ap}
 use Rattle.std.proofs.Common.{◌∙◌}
 use Rattle.definitions.specs.Spans.{corner_room}
@@ -19,10 +20,10 @@ use Rattle.trial_laws.specs.CallLaws.{told_refused, told_accepted}
 use Rattle.trial_laws.specs.ListTrial.{latest_trial, bad-refused}
 use Rattle.trial_laws.specs.Accepted.{GoodService, service-bad}
 use Rattle.drift.specs.CornersPromise.{three_lengths}
-use Rattle.latest.specs.declared.LatestAnswer.{LatestAnswer}
+use Rattle.latest.specs.declared.Trend.{Trend}
 use Rattle.latest.specs.LatestPromise.{told_of, latest_meaning, LatestPromise}
 
-module _ {v : Service} {ls : Lists} {ps qs ds ps' qs' ds' : List ℤ} {answer : LatestAnswer} (promise : LatestPromise v ls ps qs ds ps' qs' ds' answer) where
+module _ {v : Service} {ls : Lists} {ps qs ds ps' qs' ds' : List ℤ} {answer : Result Trend Refusal} (promise : LatestPromise v ls ps qs ds ps' qs' ds' answer) where
   abbrev ns : List ℕ
   ns = three_lengths ps qs ds
 

@@ -3,11 +3,11 @@ ghost use Rattle.std.specs.Prelude.{◌<◌, ◌≤◌, length};
 ghost use Rattle.definitions.specs.Spans.{most_ranges};
 ghost use Rattle.trial_laws.specs.Accepted.{AcceptedLists};
 ghost use Rattle.drift_laws.specs.RangeEnds.{lent};
-ghost use Rattle.drift_laws.specs.ChainParts.{chain, Long};
 ghost use Rattle.latest.specs.ReadBackward.{RoomFor, ReadBackward};
 ghost use Rattle.latest.specs.LatestStarts.{LatestStart};
 
 use definitions::limits::{MOST_RANGES, MOST_TIME};
+use fit::ends::End;
 use fit::run::run_from;
 
 // Copies the ranges from the last to the first, each with the time that is left from its own to the last that there is: the copy's times rise again.
@@ -23,13 +23,11 @@ fn read_backward(
     ensures { ReadBackward (lent times.now highs.now lows.now) (lent back_times.new back_highs.new back_lows.new) }
 {
     let n = times.len();
-    let mut k = 0;
-    while k < n {
+    for k in 0..n {
         let from = n - 1 - k;
         back_times[k] = MOST_TIME - times[from];
         back_highs[k] = highs[from];
         back_lows[k] = lows[from];
-        k += 1;
     }
 }
 
@@ -38,14 +36,13 @@ pub fn latest_start(
     times: &[u32],
     highs: &[i32],
     lows: &[i32],
-    up_times: &mut [u32],
-    up_values: &mut [i32],
-    down_times: &mut [u32],
-    down_values: &mut [i32],
+    up: &mut [End],
+    down: &mut [End],
 ) -> usize
-    requires { (AcceptedLists (lent times.now highs.now lows.now)) × (0 < length times.now) × (length times.now ≤ most_ranges) × (Long most_ranges (chain up_times.old up_values.old)) × (Long most_ranges (chain down_times.old down_values.old)) }
+    requires { (AcceptedLists (lent times.now highs.now lows.now)) × (0 < length times.now) × (length times.now ≤ most_ranges) × (most_ranges ≤ length up.old) × (most_ranges ≤ length down.old) }
     ensures { LatestStart (lent times.now highs.now lows.now) result }
 {
+    // three lists, as a run is found in three
     let mut back_times = [0u32; MOST_RANGES];
     let mut back_highs = [0i32; MOST_RANGES];
     let mut back_lows = [0i32; MOST_RANGES];
@@ -62,10 +59,8 @@ pub fn latest_start(
         &back_times[..n],
         &back_highs[..n],
         &back_lows[..n],
-        up_times,
-        up_values,
-        down_times,
-        down_values,
+        up,
+        down,
         0,
         n,
     );

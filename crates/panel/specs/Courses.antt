@@ -11,7 +11,7 @@
 --     joined-course                    a head that joins the panel at the end of a course could have been on it from the start: the same ranges are accepted
 --
 -- Assumes nothing.
-use Rattle.std.specs.Prelude.{ℕ, ◌+◌, ◌≡◌, refl, true, List, [], ◌∷◌, ◌++◌, length}
+use Rattle.std.specs.Prelude.{ℕ, ◌+◌, ◌≡◌, refl, true, List, [], ◌∷◌, ◌++◌, length, Result, Ok, Err}
 use Rattle.std.proofs.Common.{arith, sym, ap, ◌∙◌, append-nil, append_assoc, length-append}
 use Rattle.std.proofs.Math.Path.{subst}
 use Rattle.definitions.specs.Answers.{Answer, refused, accepted, ◌>>=◌, firstRow, given}
@@ -25,23 +25,21 @@ use Rattle.panel_laws.specs.AddLaws.{IsPanel, held-added, on-added, known-added,
 use Rattle.panel_laws.specs.OwnRanges.{proper-added}
 use Rattle.panel_laws.specs.JoiningHeads.{joined, joined-other}
 use Rattle.panel_laws.proofs.JoiningHeads.{joined_try, joined-added}
-use Rattle.panel.specs.declared.AddAnswer.{AddAnswer}
-use Rattle.panel.specs.declared.AddAnswer.TheVariants as AddCase
-use Rattle.panel.specs.declared.HeadRangesAnswer.{HeadRangesAnswer}
+use Rattle.definitions.specs.declared.refusals.Refusal.{Refusal}
 use Rattle.panel.specs.Promises.{add_meaning, head_ranges_meaning, lengths_of, AddPromise, HeadRangesPromise}
 
-unfoldable pub accepted_by : AddAnswer → ℕ → Range → List Taken
-accepted_by AddCase.Accepted a r = record { address = a; range = r } ∷ []
-accepted_by (AddCase.Refused n) a r = []
+unfoldable pub accepted_by : Result Unit Refusal → ℕ → Range → List Taken
+accepted_by (Ok u) a r = record { address = a; range = r } ∷ []
+accepted_by (Err e) a r = []
 
 pub data Course (start : Panel) : List Taken → Panel → Type 0 where
   begun : Course start [] start
-  then_add : {xs : List Taken} {s t : Panel} (a : ℕ) (r : Range) (answer : AddAnswer) → Course start xs s → AddPromise s a r answer t → Course start (xs ++ accepted_by answer a r) t
-  then_ranges : {xs : List Taken} {s : Panel} (a : ℕ) (old new : Lists) (answer : HeadRangesAnswer) → Course start xs s → HeadRangesPromise s a old new answer → Course start xs s
+  then_add : {xs : List Taken} {s t : Panel} (a : ℕ) (r : Range) (answer : Result Unit Refusal) → Course start xs s → AddPromise s a r answer t → Course start (xs ++ accepted_by answer a r) t
+  then_ranges : {xs : List Taken} {s : Panel} (a : ℕ) (old new : Lists) (answer : Result ℕ Refusal) → Course start xs s → HeadRangesPromise s a old new answer → Course start xs s
 
 -- ---- one call
 
-pub answer-add : {s t : Panel} {a : ℕ} {r : Range} {answer : AddAnswer} → AddPromise s a r answer t → add_meaning answer ≡ try_add s a r
+pub answer-add : {s t : Panel} {a : ℕ} {r : Range} {answer : Result Unit Refusal} → AddPromise s a r answer t → add_meaning answer ≡ try_add s a r
 unfolding add_call ◌>>=◌
 answer-add {s} {t} {a} {r} promise = promise.answer_is ∙ only (try_add s a r)
   where
@@ -49,15 +47,15 @@ answer-add {s} {t} {a} {r} promise = promise.answer_is ∙ only (try_add s a r)
     only (refused n) = refl
     only (accepted u) = refl
 
-pub answer-ranges : {s : Panel} {a : ℕ} {old new : Lists} {answer : HeadRangesAnswer} → HeadRangesPromise s a old new answer → head_ranges_meaning answer ≡ (firstRow (panel_rows (room_of s.places ++ lengths_of old) s a) >>= λ ok. accepted (length (head_ranges a (on_panel s))))
+pub answer-ranges : {s : Panel} {a : ℕ} {old new : Lists} {answer : Result ℕ Refusal} → HeadRangesPromise s a old new answer → head_ranges_meaning answer ≡ (firstRow (panel_rows (room_of s.places ++ lengths_of old) s a) >>= λ ok. accepted (length (head_ranges a (on_panel s))))
 unfolding head_ranges_call ◌>>=◌
 answer-ranges {s} {a} {old} promise = promise.answer_is ∙ then-then (firstRow (panel_rows (room_of s.places ++ lengths_of old) s a)) (λ ok. accepted (head_ranges a (on_panel s))) (λ rs. accepted (length rs))
 
-pub add-leaves : {s t : Panel} {a : ℕ} {r : Range} {answer : AddAnswer} → AddPromise s a r answer t → add_meaning answer ≡ accepted tt → t ≡ added s a r
+pub add-leaves : {s t : Panel} {a : ℕ} {r : Range} {answer : Result Unit Refusal} → AddPromise s a r answer t → add_meaning answer ≡ accepted tt → t ≡ added s a r
 unfolding add_call ◌>>=◌ given
 add-leaves {s} {t} {a} {r} promise e = promise.panel_is ∙ ap (λ (x : Answer Unit). given (x >>= λ ok. accepted (added s a r)) (λ (u : Panel). u) s) (sym (answer-add promise) ∙ e)
 
-pub refused-leaves : {s t : Panel} {a : ℕ} {r : Range} {answer : AddAnswer} {n : ℕ} → AddPromise s a r answer t → add_meaning answer ≡ refused n → t ≡ s
+pub refused-leaves : {s t : Panel} {a : ℕ} {r : Range} {answer : Result Unit Refusal} {n : ℕ} → AddPromise s a r answer t → add_meaning answer ≡ refused n → t ≡ s
 unfolding add_call ◌>>=◌ given
 refused-leaves {s} {t} {a} {r} promise e = promise.panel_is ∙ ap (λ (x : Answer Unit). given (x >>= λ ok. accepted (added s a r)) (λ (u : Panel). u) s) (sym (answer-add promise) ∙ e)
 
@@ -65,15 +63,15 @@ refused-leaves {s} {t} {a} {r} promise e = promise.panel_is ∙ ap (λ (x : Answ
 
 -- a range that its rows let in can be the next of a course
 pub then-accepted : {start : Panel} (xs : List Taken) (s : Panel) (a : ℕ) (r : Range) → try_add s a r ≡ accepted tt → Course start xs s → Course start (xs ++ (record { address = a; range = r } ∷ [])) (added s a r)
-unfolding accepted_by add_meaning add_call ◌>>=◌ given
-then-accepted xs s a r e course = then_add a r AddCase.Accepted course (record { answer_is = sym (ap (λ (x : Answer Unit). x >>= (λ ok. accepted (added s a r)) >>= λ u. accepted tt) e); panel_is = sym (ap (λ (x : Answer Unit). given (x >>= λ ok. accepted (added s a r)) (λ (u : Panel). u) s) e) })
+unfolding accepted_by add_call ◌>>=◌ given
+then-accepted xs s a r e course = then_add a r (Ok tt) course (record { answer_is = sym (ap (λ (x : Answer Unit). x >>= (λ ok. accepted (added s a r)) >>= λ u. accepted tt) e); panel_is = sym (ap (λ (x : Answer Unit). given (x >>= λ ok. accepted (added s a r)) (λ (u : Panel). u) s) e) })
 
 -- what holds at the start, and after a range is accepted where it held before, holds after any course
 module _ (P : List Taken → Panel → Type 0) (adds : (xs : List Taken) (s : Panel) (a : ℕ) (r : Range) → try_add s a r ≡ accepted tt → P xs s → P (xs ++ (record { address = a; range = r } ∷ [])) (added s a r)) where
-  by_answer : (xs : List Taken) {s t : Panel} (a : ℕ) (r : Range) (answer : AddAnswer) → AddPromise s a r answer t → P xs s → P (xs ++ accepted_by answer a r) t
-  unfolding accepted_by add_meaning
-  by_answer xs {s} a r AddCase.Accepted promise h = subst (P (xs ++ (record { address = a; range = r } ∷ []))) (sym (add-leaves promise refl)) (adds xs s a r (sym (answer-add promise)) h)
-  by_answer xs {s} {t} a r (AddCase.Refused n) promise h = subst (λ ys. P ys t) (sym (append-nil xs)) (subst (P xs) (sym (refused-leaves promise refl)) h)
+  by_answer : (xs : List Taken) {s t : Panel} (a : ℕ) (r : Range) (answer : Result Unit Refusal) → AddPromise s a r answer t → P xs s → P (xs ++ accepted_by answer a r) t
+  unfolding accepted_by
+  by_answer xs {s} a r (Ok u) promise h = subst (P (xs ++ (record { address = a; range = r } ∷ []))) (sym (add-leaves promise refl)) (adds xs s a r (sym (answer-add promise)) h)
+  by_answer xs {s} {t} a r (Err e) promise h = subst (λ ys. P ys t) (sym (append-nil xs)) (subst (P xs) (sym (refused-leaves promise refl)) h)
 
   course_keeps : {start : Panel} {xs : List Taken} {s : Panel} → P [] start → Course start xs s → P xs s
   course_keeps h begun = h

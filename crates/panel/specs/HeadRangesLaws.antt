@@ -1,50 +1,34 @@
--- From what Head ranges finds on plain lists to what it promises.
+-- From what Head ranges finds to what it promises.
 --
---     ListedFor                            the promise of `list_head`: that of Head ranges, for the entries that its table is of
---     list_number, list_number_of_table     the number that is found for a table, and that it is the scope's for the entries that the table is of
---     rows_of                               the rows of Head ranges, by their tests
---     ListRoom, list-room                  where there is no number, at most 4,096 places are held, and all seven lists have room
+--     list_rows_of                         the rows of Head ranges, by the steps that try them
+--     ListRoom, list-room                  where none holds, at most 4,096 places are held, and all seven lists have room
 --     same-lengths                         so the first places of the four lists are equally many
 --     not_listed, was-listed               the promise of Head ranges, where it is refused and where it is accepted
 --
 -- Assumes nothing.
-use Rattle.std.specs.Prelude.{ℕ, ◌≤◌, ◌≡◌, List, [], ◌++◌, map, ltb, length, take, drop}
-use Rattle.std.proofs.Common.{arith, pos_of_ne-zero, sym, ap, ◌∙◌, length-take-le}
+use Rattle.std.specs.Prelude.{ℕ, ◌≤◌, ◌≡◌, List, ◌++◌, Result, Ok, map, length, take, drop}
+use Rattle.std.proofs.Common.{arith, sym, ap, ◌∙◌, length-take-le}
 use Rattle.definitions.specs.Spans.{panel_room}
-use Rattle.definitions.specs.Answers.{refused, accepted, ◌>>=◌, Row, firstRow, refusal, filled}
+use Rattle.definitions.specs.Answers.{refused, accepted, ◌>>=◌, Row, firstRow, filled}
 use Rattle.definitions.specs.Ranges.{Range, Lists}
-use Rattle.definitions.specs.Trial.{too_short}
-use Rattle.definitions.specs.Panels.{Places, Panel, taken, on_panel, zip_taken, head_ranges, total_held, bad_panel, not_panel}
+use Rattle.definitions.specs.Panels.{Places, Panel, taken, on_panel, zip_taken, head_ranges, total_held, not_panel}
 use Rattle.definitions.specs.PanelCalls.{room_of, panel_rows, head_ranges_call}
 use Rattle.definitions.specs.declared.entries.Entry.{Entry}
-use Rattle.trial_laws.specs.Rows.{refusal-above, refusal-zero}
+use Rattle.definitions.specs.declared.refusals.Refusal.{Refusal}
+use Rattle.trial_laws.specs.Rows.{first_row-accepted}
 use Rattle.panel_laws.proofs.PlainLists.{held_plain}
 use Rattle.trial_laws.specs.ShortLists.{long-split, all-long}
-use Rattle.panel_laws.specs.PanelRows.{panel_trial, good-panel, total-room, panel-numbered, Roomy, roomy, first-lengths}
+use Rattle.panel_laws.specs.PanelRows.{good-panel, total-room, Roomy, roomy, first-lengths}
+use Rattle.panel_trial.specs.Decisions.{room_rows, first_rows}
 use Rattle.panel.specs.Promises.{head_ranges_meaning, lengths_of, HeadRangesPromise}
-use Rattle.panel.specs.Tables.{table_from}
-use Rattle.panel.specs.TableLaws.{heads_of}
-use Rattle.panel.specs.TableNumbers.{number_by, number_of, number_of_table, none_found}
 use Rattle.panel.specs.Copies.{SameLengths, Copied, put_from, values_of, put_all, values_few, head-columns}
-use Rattle.panel.specs.declared.table.Table.{Table}
-use Rattle.panel.specs.declared.HeadRangesAnswer.{HeadRangesAnswer}
-use Rattle.panel.specs.declared.HeadRangesAnswer.TheVariants.{Accepted, Refused}
 
 abbrev panel : List Entry → Places → Panel
 panel es p = record { entries = es; places = p }
 
-pub record ListedFor (t : Table) (p : Places) (a : ℕ) (old new : Lists) (answer : HeadRangesAnswer) : Type 0 where
-  pub for_entries : (es : List Entry) → t ≡ table_from es → HeadRangesPromise (panel es p) a old new answer
-
-abbrev pub list_number : Table → Places → ℕ → List ℕ → ℕ
-list_number t p a room = number_of (room_of p ++ room) p.addresses a (λ es. []) t
-
+-- the code tries 8 by itself, and then 14 and 12
 abbrev pub rows_of : List Entry → Places → ℕ → List ℕ → List Row
-rows_of es p a room = panel_trial (too_short panel_room (room_of p ++ room)) (bad_panel es (take (total_held es) p.addresses)) a es
-
-pub list_number_of_table : (es : List Entry) (p : Places) (a : ℕ) (room : List ℕ) → list_number (table_from es) p a room ≡ refusal (firstRow (rows_of es p a room))
-unfolding number_by panel_trial
-list_number_of_table es p a room = number_of_table (room_of p ++ room) p.addresses a (λ es. []) es
+rows_of es p a room = room_rows (room_of p ++ room) ++ first_rows es p.addresses a
 
 -- ---- room
 
@@ -55,15 +39,14 @@ pub record ListRoom (n : ℕ) (p : Places) (into : Lists) : Type 0 where
   pub into_lows : panel_room ≤ length into.lows
   pub into_highs : panel_room ≤ length into.highs
 
-pub list-room : (t : Table) (p : Places) (a : ℕ) (into : Lists) → list_number t p a (lengths_of into) ≡ 0 → ListRoom (total_held (heads_of t)) p into
+pub list-room : (es : List Entry) (p : Places) (a : ℕ) (into : Lists) → firstRow (rows_of es p a (lengths_of into)) ≡ accepted tt → ListRoom (total_held es) p into
 unfolding lengths_of
-list-room t p a into e =
-    let es = heads_of t in
-    let h = none_found (room_of p ++ lengths_of into) p.addresses a (λ es. []) (λ es. tt) (ltb 64 t.count) es e in
+list-room es p a into e =
+    let h = (first_row-accepted (rows_of es p a (lengths_of into))).0 e in
     let long = long-split panel_room (room_of p) (lengths_of into) h.0 in
     let three = all-long panel_room (lengths_of into) long.1 in
     record {
-      most = total-room es _ (good-panel es _ h.1);
+      most = total-room es _ (good-panel es _ h.1.0);
       places = roomy p long.0;
       into_times = three.0;
       into_lows = three.1.0;
@@ -75,16 +58,15 @@ same-lengths n p into r = let same = first-lengths n p r.most r.places in record
 
 -- ---- the promise
 
-pub not_listed : (es : List Entry) (p : Places) (a : ℕ) (into : Lists) (number : ℕ) → number ≡ refusal (firstRow (rows_of es p a (lengths_of into))) → (number ≡ 0 → ⊥) → HeadRangesPromise (panel es p) a into into (Refused number)
-unfolding head_ranges_meaning head_ranges_call panel_rows not_panel on_panel panel_trial filled ◌>>=◌
-not_listed es p a into number is above =
-    let e = refusal-above (firstRow (rows_of es p a (lengths_of into))) number (sym is) (pos_of_ne-zero above) in
-    let answer : head_ranges_call (lengths_of into) (panel es p) a ≡ refused number = ap (λ x. x >>= λ ok. accepted (head_ranges a (taken (total_held es) p))) e in
+pub not_listed : (es : List Entry) (p : Places) (a : ℕ) (into : Lists) (answer : Result ℕ Refusal) (n : ℕ) → head_ranges_meaning answer ≡ refused n → firstRow (rows_of es p a (lengths_of into)) ≡ refused n → HeadRangesPromise (panel es p) a into into answer
+unfolding head_ranges_call panel_rows not_panel on_panel filled ◌>>=◌
+not_listed es p a into answer n means e =
+    let call : head_ranges_call (lengths_of into) (panel es p) a ≡ refused n = ap (λ x. x >>= λ ok. accepted (head_ranges a (taken (total_held es) p))) e in
     record {
-      answer_is = sym (ap (λ x. x >>= λ rs. accepted (length rs)) answer);
-      times_are = sym (ap (λ x. filled x (map (λ (r : Range). r.time)) into.times) answer);
-      lows_are = sym (ap (λ x. filled x (map (λ (r : Range). r.low)) into.lows) answer);
-      highs_are = sym (ap (λ x. filled x (map (λ (r : Range). r.high)) into.highs) answer);
+      answer_is = means ∙ sym (ap (λ x. x >>= λ rs. accepted (length rs)) call);
+      times_are = sym (ap (λ x. filled x (map (λ (r : Range). r.time)) into.times) call);
+      lows_are = sym (ap (λ x. filled x (map (λ (r : Range). r.low)) into.lows) call);
+      highs_are = sym (ap (λ x. filled x (map (λ (r : Range). r.high)) into.highs) call);
     }
 
 -- the entries of an address stand first
@@ -93,16 +75,14 @@ stand-first a n bs xs o ys most long room is =
     let few = values_few a (take n bs) xs in
     put_all a (take n bs) xs o (omega (arith, few, most, long, room)) ∙ ap (λ zs. zs ++ drop (length zs) o) (sym is)
 
-pub was-listed : (es : List Entry) (p : Places) (a : ℕ) (old new : Lists) (count n : ℕ) → refusal (firstRow (rows_of es p a (lengths_of old))) ≡ 0 → n ≡ total_held es → ListRoom n p old → Copied a (take n p.addresses) (take n p.times) (take n p.lows) (take n p.highs) count old new → HeadRangesPromise (panel es p) a old new (Accepted count)
-unfolding head_ranges_meaning head_ranges_call panel_rows not_panel on_panel panel_trial filled ◌>>=◌ taken
-was-listed es p a old new count n zero_is n_is room c =
+pub was-listed : (es : List Entry) (p : Places) (a : ℕ) (old new : Lists) (count n : ℕ) → firstRow (rows_of es p a (lengths_of old)) ≡ accepted tt → n ≡ total_held es → ListRoom n p old → Copied a (take n p.addresses) (take n p.times) (take n p.lows) (take n p.highs) count old new → HeadRangesPromise (panel es p) a old new (Ok count)
+unfolding head_ranges_call panel_rows not_panel on_panel filled ◌>>=◌ taken
+was-listed es p a old new count n e n_is room c =
     let bs = take n p.addresses in
     let ts = take n p.times in
     let us = take n p.lows in
     let vs = take n p.highs in
     let rs = head_ranges a (zip_taken bs ts us vs) in
-    let short = too_short panel_room (room_of p ++ lengths_of old) in
-    let e = (refusal-zero (rows_of es p a (lengths_of old)) (panel-numbered short (bad_panel es (take (total_held es) p.addresses)) a es)).0 zero_is in
     let answer : head_ranges_call (lengths_of old) (panel es p) a ≡ accepted rs = ap (λ x. x >>= λ ok. accepted (head_ranges a (taken (total_held es) p))) e ∙ ap (λ m. accepted (head_ranges a (taken m p))) (sym n_is) in
     let same = same-lengths n p old room in
     let columns = head-columns a bs ts us vs same in

@@ -1,7 +1,4 @@
 pub mod Promises
-pub mod Tables
-pub mod TableLaws
-pub mod TableNumbers
 pub mod Admissions
 pub mod AdmissionLaws
 pub mod Copies

@@ -28,8 +28,8 @@
 --
 -- Further laws stand in proofs/PanelTheorems.antt.
 -- Assumes nothing.
-use Rattle.std.specs.Prelude.{ℕ, ◌+◌, ◌<◌, ◌≤◌, ◌≡◌, ◌↔◌, true, false, eqb, length, get_or, set, drop}
-use Rattle.std.proofs.Common.{arith, zero-add, sym, ◌∙◌, subst}
+use Rattle.std.specs.Prelude.{ℕ, ◌+◌, ◌<◌, ◌≤◌, ◌≡◌, ◌↔◌, true, false, eqb, length, get_or, set, drop, Result}
+use Rattle.std.proofs.Common.{arith, sym, ◌∙◌, subst}
 use Rattle.std.proofs.Math.Path.{ap}
 use mathlib.Core.List.{List, [], ◌∷◌, ◌++◌}
 use Rattle.definitions.specs.Spans.{segment_room, panel_room}
@@ -48,16 +48,15 @@ use Rattle.trial_laws.specs.RangeLists.{lists_of, first_entries}
 use Rattle.trial_laws.specs.Accepted.{GoodService, ProperRanges}
 use Rattle.panel_laws.specs.PanelRows.{own_rows}
 use Rattle.panel_laws.specs.Strangers.{stranger_not}
-use Rattle.panel_laws.specs.AddLaws.{AllEmpty, none-held, nothing-on, IsPanel, Starts, starts-panel, held-added, counts-added, stays-panel}
+use Rattle.panel_laws.specs.AddLaws.{AllEmpty, nothing-on, IsPanel, Starts, starts-panel, held-added, counts-added, stays-panel}
 use Rattle.panel_laws.specs.HeldLaws as Held
 use Rattle.panel_laws.proofs.HeldLaws as HeldAbove
 use Rattle.panel_laws.specs.JoiningHeads.{joined, joined-starts}
 use Rattle.panel_laws.proofs.JoiningHeads.{joined-panel, joined-on, joined-held, joined_ranges}
 use Rattle.panel_laws.specs.TwoHeads.{two_heads, two-start, turn, Reached, reached, same_ones, ones_length, still_room, no_room}
-use Rattle.panel.specs.declared.AddAnswer.{AddAnswer}
-use Rattle.panel.specs.declared.HeadRangesAnswer.{HeadRangesAnswer}
+use Rattle.definitions.specs.declared.refusals.Refusal.{Refusal}
 use Rattle.panel.specs.Promises.{add_meaning, head_ranges_meaning, lengths_of, AddPromise, HeadRangesPromise}
-use Rattle.panel.specs.Courses.{Course, begun, then-accepted, answer-add, answer-ranges, add-leaves, refused-leaves, held_course, on_course, panel_course, known_course, joined-course}
+use Rattle.panel.specs.Courses.{Course, begun, then-accepted, answer-add, answer-ranges, add-leaves, refused-leaves, on_course, panel_course, known_course, joined-course}
 use Rattle.panel.specs.RangesGiven as Given
 use Rattle.panel.specs.RangesGiven.{GivenRanges}
 
@@ -79,20 +78,20 @@ module _ {start : Panel} {xs : List Taken} {s : Panel} (course : Course start xs
   pub most_own : (a : ℕ) → Starts start → unknown a start.entries ≡ false → length (head_ranges a xs) ≤ 2080
   most_own a starts is_Known = Given.few_own a starts.empty course (course_panel (starts-panel starts)) (known_course a course ∙ is_Known)
 
-  pub never_fourteen : {t : Panel} {a : ℕ} {r : Range} {answer : AddAnswer} → Starts start → AddPromise s a r answer t → add_meaning answer ≡ refused 14 → ⊥
+  pub never_fourteen : {t : Panel} {a : ℕ} {r : Range} {answer : Result Unit Refusal} → Starts start → AddPromise s a r answer t → add_meaning answer ≡ refused 14 → ⊥
   never_fourteen {t} {a} {r} starts promise e = Held.add_never_14 s a r (course_panel (starts-panel starts)) (sym (answer-add promise) ∙ e)
 
-  pub ranges_never_fourteen : {a : ℕ} {old new : Lists} {answer : HeadRangesAnswer} → Starts start → HeadRangesPromise s a old new answer → head_ranges_meaning answer ≡ refused 14 → ⊥
+  pub ranges_never_fourteen : {a : ℕ} {old new : Lists} {answer : Result ℕ Refusal} → Starts start → HeadRangesPromise s a old new answer → head_ranges_meaning answer ≡ refused 14 → ⊥
   ranges_never_fourteen {a} {old} starts promise e = Held.ranges_never_14 (room_of s.places ++ lengths_of old) s a (course_panel (starts-panel starts)) (bind-refused _ _ 14 (sym (answer-ranges promise) ∙ e))
 
-  pub course_sure : {t : Panel} {a : ℕ} {r : Range} {answer : AddAnswer} → Starts start → unknown a start.entries ≡ false → length (head_ranges a xs) < 32 → firstRow (range_rows (last_time none (head_ranges a xs)) r) ≡ accepted tt → AddPromise s a r answer t → add_meaning answer ≡ accepted tt
+  pub course_sure : {t : Panel} {a : ℕ} {r : Range} {answer : Result Unit Refusal} → Starts start → unknown a start.entries ≡ false → length (head_ranges a xs) < 32 → firstRow (range_rows (last_time none (head_ranges a xs)) r) ≡ accepted tt → AddPromise s a r answer t → add_meaning answer ≡ accepted tt
   course_sure {t} {a} {r} starts is_Known less passes promise =
       let own = Given.own_course a starts.empty course in
       answer-add promise ∙ HeldAbove.sure_of_32 s a r (course_panel (starts-panel starts)) (known_course a course ∙ is_Known) (subst (λ n. n < 32) (sym (course_held a starts is_Known)) less) (ap (λ rs. firstRow (range_rows (last_time none rs) r)) own ∙ passes)
 
 -- ---- what Head ranges fills in
 
-module _ {start : Panel} {xs : List Taken} {s : Panel} {a : ℕ} {old new : Lists} {answer : HeadRangesAnswer} (course : Course start xs s) (promise : HeadRangesPromise s a old new answer) where
+module _ {start : Panel} {xs : List Taken} {s : Panel} {a : ℕ} {old new : Lists} {answer : Result ℕ Refusal} (course : Course start xs s) (promise : HeadRangesPromise s a old new answer) where
   pub given_ranges : {n : ℕ} → AllEmpty start.entries → head_ranges_meaning answer ≡ accepted n → GivenRanges (head_ranges a xs) new n
   given_ranges {n} empty e = subst (λ rs. GivenRanges rs new n) (Given.own_course a empty course) (Given.ranges_first promise e)
 
@@ -105,7 +104,7 @@ module _ {start : Panel} {xs : List Taken} {s : Panel} {a : ℕ} {old new : List
       let most = Given.few_own a empty course passed.0 passed.1 in
       ap (segment_call rooms v) (Given.entries-first (given_ranges empty e)) ∙ Given.segments-given rooms v (head_ranges a xs) (proper_own course a empty) (omega (arith, most)) room good
 
-pub own-only : {start start' : Panel} {xs xs' : List Taken} {s s' : Panel} {a : ℕ} {old old' new new' : Lists} {answer answer' : HeadRangesAnswer} {n n' : ℕ} → AllEmpty start.entries → AllEmpty start'.entries → Course start xs s → Course start' xs' s' → head_ranges a xs ≡ head_ranges a xs'
+pub own-only : {start start' : Panel} {xs xs' : List Taken} {s s' : Panel} {a : ℕ} {old old' new new' : Lists} {answer answer' : Result ℕ Refusal} {n n' : ℕ} → AllEmpty start.entries → AllEmpty start'.entries → Course start xs s → Course start' xs' s' → head_ranges a xs ≡ head_ranges a xs'
     → HeadRangesPromise s a old new answer → HeadRangesPromise s' a old' new' answer' → head_ranges_meaning answer ≡ accepted n → head_ranges_meaning answer' ≡ accepted n' → (n ≡ n') × (first_entries n new ≡ first_entries n' new')
 own-only empty empty' course course' same promise promise' e e' =
     let g = given_ranges course promise empty e in
@@ -114,7 +113,7 @@ own-only empty empty' course course' same promise promise' e e' =
 
 -- ---- one call of Add
 
-module _ {s t : Panel} {a : ℕ} {r : Range} {answer : AddAnswer} (promise : AddPromise s a r answer t) where
+module _ {s t : Panel} {a : ℕ} {r : Range} {answer : Result Unit Refusal} (promise : AddPromise s a r answer t) where
   pub sure_of_32 : IsPanel s → unknown a s.entries ≡ false → held_by a s.entries < 32 → firstRow (own_rows s a r) ≡ accepted tt → add_meaning answer ≡ accepted tt
   sure_of_32 h is_Known less passes = answer-add promise ∙ HeldAbove.sure_of_32 s a r h is_Known less passes
 
@@ -153,7 +152,7 @@ module _ {s t : Panel} {a : ℕ} {r : Range} {answer : AddAnswer} (promise : Add
 
 -- ---- one call of Head ranges
 
-module _ {s : Panel} {a : ℕ} {old new : Lists} {answer : HeadRangesAnswer} (promise : HeadRangesPromise s a old new answer) where
+module _ {s : Panel} {a : ℕ} {old new : Lists} {answer : Result ℕ Refusal} (promise : HeadRangesPromise s a old new answer) where
   pub ranges_address_twelve : IsPanel s → too_short panel_room (lengths_of old) ≡ false → bad_address a ≡ true → head_ranges_meaning answer ≡ refused 12
   unfolding panel_rows
   ranges_address_twelve h long bad = Given.ranges-refused promise (Held.twelve_first (room_of s.places ++ lengths_of old) s a [] (long-join panel_room (room_of s.places) (lengths_of old) h.long long) h.good (Held.outside-unknown s a h.good bad))
@@ -184,8 +183,8 @@ pub record OthersDecide : Type 0 where
   pub course' : Course start xs' s'
   pub same : head_ranges a xs ≡ head_ranges a xs'
   pub are-32 : length (head_ranges a xs) ≡ 32
-  pub accepts : {t : Panel} {answer : AddAnswer} → AddPromise s a r answer t → add_meaning answer ≡ accepted tt
-  pub refuses : {t : Panel} {answer : AddAnswer} → AddPromise s' a r answer t → add_meaning answer ≡ refused 13
+  pub accepts : {t : Panel} {answer : Result Unit Refusal} → AddPromise s a r answer t → add_meaning answer ≡ accepted tt
+  pub refuses : {t : Panel} {answer : Result Unit Refusal} → AddPromise s' a r answer t → add_meaning answer ≡ refused 13
 
 decided : Reached (Course two_heads) 32 2079 → Reached (Course two_heads) 32 2080 → OthersDecide
 decided h h' =
@@ -215,7 +214,7 @@ module _ {s : Panel} (a : ℕ) (h : IsPanel s) (few : length s.entries < 64) (in
   pub head_joins : IsPanel (joined a s) × (on_panel (joined a s) ≡ on_panel s) × ((b : ℕ) → held_by b (joined a s).entries ≡ held_by b s.entries)
   head_joins = (joined-panel a h few inside new_head, joined-on a s, λ b. joined-held b a s)
 
-  pub joined_same : {b : ℕ} {old new new' : Lists} {answer answer' : HeadRangesAnswer} → eqb a b ≡ false → HeadRangesPromise s b old new answer → HeadRangesPromise (joined a s) b old new' answer' → (head_ranges_meaning answer' ≡ head_ranges_meaning answer) × (new' ≡ new)
+  pub joined_same : {b : ℕ} {old new new' : Lists} {answer answer' : Result ℕ Refusal} → eqb a b ≡ false → HeadRangesPromise s b old new answer → HeadRangesPromise (joined a s) b old new' answer' → (head_ranges_meaning answer' ≡ head_ranges_meaning answer) × (new' ≡ new)
   joined_same {b} {old} other promise promise' = Given.same-given (joined_ranges b a h (joined-panel a h few inside new_head) other (lengths_of old)) promise promise'
 
 pub course-joins : {start : Panel} {xs : List Taken} {s : Panel} (a : ℕ) → Course start xs s → Starts start → length start.entries < 64 → bad_address a ≡ false → unknown a start.entries ≡ true → Starts (joined a start) × Course (joined a start) xs (joined a s)

@@ -12,7 +12,7 @@
 --     segments-given            Segment accepts the lists of proper ranges, and gives their segments
 --
 -- Assumes nothing.
-use Rattle.std.specs.Prelude.{ℕ, ◌≤◌, ◌≡◌, refl, false, List, ◌++◌, map, length, take, drop}
+use Rattle.std.specs.Prelude.{ℕ, ◌≤◌, ◌≡◌, refl, false, List, ◌++◌, map, length, take, drop, Result}
 use Rattle.std.proofs.Common.{arith, sym, ap₂, ◌∙◌, take_at, drop_at}
 use Rattle.std.proofs.Math.Path.{ap, subst}
 use Rattle.std.proofs.lemmas.List.{length-map}
@@ -34,7 +34,7 @@ use Rattle.trial_laws.specs.Accepted.{ProperRanges, GoodService, accepted-lists,
 use Rattle.panel_laws.specs.AddLaws.{AllEmpty, nothing-on, IsPanel}
 use Rattle.panel_laws.specs.HeldLaws.{most-held}
 use Rattle.panel_laws.proofs.HeldLaws.{held-is}
-use Rattle.panel.specs.declared.HeadRangesAnswer.{HeadRangesAnswer}
+use Rattle.definitions.specs.declared.refusals.Refusal.{Refusal}
 use Rattle.panel.specs.Promises.{head_ranges_meaning, lengths_of, HeadRangesPromise}
 use Rattle.panel.specs.Refusals.{head_ranges_accepted}
 use Rattle.panel.specs.Courses.{Course, answer-ranges, on_course, proper_course}
@@ -47,11 +47,11 @@ pub record GivenRanges (rs : List Range) (ls : Lists) (n : ℕ) : Type 0 where
 
 -- ---- from the promise
 
-pub call_passes : {s : Panel} {a : ℕ} {old new : Lists} {answer : HeadRangesAnswer} → HeadRangesPromise s a old new answer → IsPanel s → unknown a s.entries ≡ false → too_short panel_room (lengths_of old) ≡ false → head_ranges_meaning answer ≡ accepted (length (head_ranges a (on_panel s)))
+pub call_passes : {s : Panel} {a : ℕ} {old new : Lists} {answer : Result ℕ Refusal} → HeadRangesPromise s a old new answer → IsPanel s → unknown a s.entries ≡ false → too_short panel_room (lengths_of old) ≡ false → head_ranges_meaning answer ≡ accepted (length (head_ranges a (on_panel s)))
 unfolding panel_rows
 call_passes {s} {a} {old} promise h is_Known long = (head_ranges_accepted promise).1 (long-join panel_room (room_of s.places) (lengths_of old) h.long long, (h.good, (is_Known, tt)))
 
-pub ranges-refused : {s : Panel} {a : ℕ} {old new : Lists} {answer : HeadRangesAnswer} {n : ℕ} → HeadRangesPromise s a old new answer → firstRow (panel_rows (room_of s.places ++ lengths_of old) s a) ≡ refused n → head_ranges_meaning answer ≡ refused n
+pub ranges-refused : {s : Panel} {a : ℕ} {old new : Lists} {answer : Result ℕ Refusal} {n : ℕ} → HeadRangesPromise s a old new answer → firstRow (panel_rows (room_of s.places ++ lengths_of old) s a) ≡ refused n → head_ranges_meaning answer ≡ refused n
 unfolding ◌>>=◌
 ranges-refused {s} {a} promise e = answer-ranges promise ∙ ap (λ (x : Answer Unit). x >>= λ ok. accepted (length (head_ranges a (on_panel s)))) e
 
@@ -65,13 +65,13 @@ filled-past : {A B : Type 0} (answer : Answer B) (b : B) (f : B → List A) (old
 unfolding filled
 filled-past answer b f old n e long = ap (λ x. drop n (filled x f old)) e ∙ drop_at (f b) (drop (length (f b)) old) n long ∙ ap (λ k. drop k old) long
 
-pub refused-lists : {s : Panel} {a : ℕ} {old new : Lists} {answer : HeadRangesAnswer} {n : ℕ} → HeadRangesPromise s a old new answer → head_ranges_meaning answer ≡ refused n → new ≡ old
+pub refused-lists : {s : Panel} {a : ℕ} {old new : Lists} {answer : Result ℕ Refusal} {n : ℕ} → HeadRangesPromise s a old new answer → head_ranges_meaning answer ≡ refused n → new ≡ old
 unfolding filled
 refused-lists {s} {a} {old} {n = n} promise e =
     let none = bind-refused (head_ranges_call (lengths_of old) s a) length n (sym promise.answer_is ∙ e) in
     rw (promise.times_are, promise.lows_are, promise.highs_are, none) refl
 
-module _ {s : Panel} {a : ℕ} {old new : Lists} {answer : HeadRangesAnswer} {n : ℕ} (promise : HeadRangesPromise s a old new answer) (accepts : head_ranges_meaning answer ≡ accepted n) where
+module _ {s : Panel} {a : ℕ} {old new : Lists} {answer : Result ℕ Refusal} {n : ℕ} (promise : HeadRangesPromise s a old new answer) (accepts : head_ranges_meaning answer ≡ accepted n) where
   passed : (firstRow (panel_rows (room_of s.places ++ lengths_of old) s a) ≡ accepted tt) × (length (head_ranges a (on_panel s)) ≡ n)
   passed =
       let rows = panel_rows (room_of s.places ++ lengths_of old) s a in
@@ -115,7 +115,7 @@ entries-first g = rw (g.times_are, g.lows_are, g.highs_are) refl
 lists-same : {ls ms : Lists} → ls.times ≡ ms.times → ls.lows ≡ ms.lows → ls.highs ≡ ms.highs → ls ≡ ms
 lists-same {ls} {ms} e f g = ap₂ (λ ts us. record { times = ts; lows = us; highs = ls.highs }) e f ∙ ap (λ vs. record { times = ms.times; lows = ms.lows; highs = vs }) g
 
-pub same-given : {s s' : Panel} {a : ℕ} {old new new' : Lists} {answer answer' : HeadRangesAnswer} → head_ranges_call (lengths_of old) s' a ≡ head_ranges_call (lengths_of old) s a → HeadRangesPromise s a old new answer → HeadRangesPromise s' a old new' answer' → (head_ranges_meaning answer' ≡ head_ranges_meaning answer) × (new' ≡ new)
+pub same-given : {s s' : Panel} {a : ℕ} {old new new' : Lists} {answer answer' : Result ℕ Refusal} → head_ranges_call (lengths_of old) s' a ≡ head_ranges_call (lengths_of old) s a → HeadRangesPromise s a old new answer → HeadRangesPromise s' a old new' answer' → (head_ranges_meaning answer' ≡ head_ranges_meaning answer) × (new' ≡ new)
 same-given {old = old} same promise promise' = (
   promise'.answer_is ∙ ap (λ (x : Answer (List Range)). x >>= λ rs. accepted (length rs)) same ∙ sym promise.answer_is,
   lists-same

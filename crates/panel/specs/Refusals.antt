@@ -4,7 +4,7 @@
 --     add_accepted, head_ranges_accepted     accepted, with the number of the head's ranges, exactly if no row holds
 --
 -- Assumes nothing.
-use Rattle.std.specs.Prelude.{◌≡◌, ◌↔◌, List, ◌++◌, ℕ}
+use Rattle.std.specs.Prelude.{◌≡◌, ◌↔◌, List, ◌++◌, ℕ, Result}
 use Rattle.std.proofs.Math.ListN.{length}
 use Rattle.definitions.specs.Ranges.{Range, Lists}
 use Rattle.definitions.specs.Answers.{Row, refused, accepted}
@@ -12,11 +12,10 @@ use Rattle.definitions.specs.Panels.{Panel, on_panel, head_ranges}
 use Rattle.definitions.specs.PanelCalls.{room_of, panel_rows, add_rows, added, add_call, head_ranges_call}
 use Rattle.trial_laws.specs.Rows.{NoneHolds, FirstAt}
 use Rattle.trial_laws.specs.CallLaws.{told_refused, told_accepted}
-use Rattle.panel.specs.declared.AddAnswer.{AddAnswer}
-use Rattle.panel.specs.declared.HeadRangesAnswer.{HeadRangesAnswer}
+use Rattle.definitions.specs.declared.refusals.Refusal.{Refusal}
 use Rattle.panel.specs.Promises.{add_meaning, head_ranges_meaning, lengths_of, AddPromise, HeadRangesPromise}
 
-module _ {s t : Panel} {a : ℕ} {r : Range} {answer : AddAnswer} (promise : AddPromise s a r answer t) where
+module _ {s t : Panel} {a : ℕ} {r : Range} {answer : Result Unit Refusal} (promise : AddPromise s a r answer t) where
   pub add_refused : (n : ℕ) → (add_meaning answer ≡ refused n) ↔ FirstAt n (add_rows s a r)
   unfolding add_call
   add_refused = told_refused (add_rows s a r) (added s a r) (λ u. tt) promise.answer_is
@@ -25,7 +24,7 @@ module _ {s t : Panel} {a : ℕ} {r : Range} {answer : AddAnswer} (promise : Add
   unfolding add_call
   add_accepted = told_accepted (add_rows s a r) (added s a r) (λ u. tt) promise.answer_is
 
-module _ {s : Panel} {a : ℕ} {old new : Lists} {answer : HeadRangesAnswer} (promise : HeadRangesPromise s a old new answer) where
+module _ {s : Panel} {a : ℕ} {old new : Lists} {answer : Result ℕ Refusal} (promise : HeadRangesPromise s a old new answer) where
   abbrev rows : List Row
   rows = panel_rows (room_of s.places ++ lengths_of old) s a
 

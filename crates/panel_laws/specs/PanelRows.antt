@@ -102,7 +102,7 @@ let_in own crowd h e c = ap refusal (passed_first own (13 if crowd ∷ []) h e) 
 
 -- ---- the room
 
-total_at_most : (es : List Entry) → total_held es ≤ 32 * length es + common_taken es
+pub total_at_most : (es : List Entry) → total_held es ≤ 32 * length es + common_taken es
 unfolding total_held common_taken
 total_at_most [] = omega arith
 total_at_most (e ∷ es) = let r = total_at_most es in omega (arith, r)

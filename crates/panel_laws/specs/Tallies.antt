@@ -12,6 +12,7 @@
 --     place_here, place-later             the first place, from the k-th on
 --     incremented, tallied                one more at a place; every number counted in one pass
 --     incremented-past, incremented-bound, none-counted   past the end nothing changes; no count rises by more than one; at first all are 0
+--     tallied-alone                       a tally of numbers alone has, at each place, how many of them are that place
 --     counted-plain                       a tally of the addresses tells what heads are to hold, where their addresses are inside their span
 --
 -- Assumes nothing.
@@ -211,7 +212,7 @@ none-counted zero i = refl
 none-counted (suc n) zero = refl
 none-counted (suc n) (suc i) = none-counted n i
 
-tallied-alone : (n a : ℕ) (xs : List ℕ) → a < n → get_or (tallied (zeros n) xs) a 0 ≡ occurrences a xs
+pub tallied-alone : (n a : ℕ) (xs : List ℕ) → a < n → get_or (tallied (zeros n) xs) a 0 ≡ occurrences a xs
 tallied-alone n a xs l =
     let long = length-replicate {A = ℕ} n 0 in
     tallied-at a (zeros n) xs (omega (arith, long, l)) ∙ ap (λ m. m + occurrences a xs) (none-counted n a) ∙ zero-add (occurrences a xs)

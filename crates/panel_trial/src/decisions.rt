@@ -1,138 +1,71 @@
-// What becomes of a range for a panel, on the heads' addresses and held counts as plain slices.
-ghost use Rattle.std.specs.Prelude.{◌≡◌, false, ◌||◌, [], ◌∷◌, take};
-ghost use Rattle.definitions.specs.Answers.{firstRow, refusal};
-ghost use Rattle.definitions.specs.Trial.{too_short};
+// What becomes of a range for a panel, on its entries and the addresses and times in its places.
+ghost use Rattle.std.specs.Prelude.{◌≡◌, ◌≤◌, length};
+ghost use Rattle.definitions.specs.Answers.{firstRow};
+ghost use Rattle.definitions.specs.Refusals.{answered};
 ghost use Rattle.definitions.specs.Spans.{panel_room};
-ghost use Rattle.definitions.specs.Panels.{bad_panel, total_held};
-ghost use Rattle.panel_laws.specs.PanelRows.{panel_trial};
-ghost use Rattle.panel_laws.specs.PlainLists.{entries_of, Heads};
-ghost use Rattle.panel_trial.specs.Decisions.{HeadsTimes, Good, DecidedRange, Decided};
+ghost use Rattle.panel_trial.specs.Decisions.{RoomFor, Decided, Tried, room_rows};
 
 use crate::heads::panel_bad;
 use crate::tallies::{common_of, least_time, place_of, total_of};
+use definitions::entries::Entry;
 use definitions::limits::{COMMON_PLACES, PANEL_ROOM, SURE_PLACES};
-use trial::{three_short, try_range};
+use definitions::refusals::Refusal;
+use trial::{some_short, try_range};
 
-// What becomes of a range: the number that turns it down, or 0; and, where it is accepted, the place of its head's entry,
-// what that entry then holds, and the range's place in the lists.
+// What becomes of an accepted range: the place of its head's entry, what that entry then holds, and the range's place in the lists.
 #[derive(Clone, Copy)]
 pub struct Decision {
-    pub number: u8,
     pub at: usize,
     pub held: u32,
     pub place: usize,
 }
 
-// What becomes of a range that is turned down.
-fn turned_down(number: u8) -> Decision
-    ensures { result ≡ record { number = number; at = 0; held = 0; place = 0 } }
+// Lists of these lengths: 8 if one of them is below 4,096.
+pub fn try_room(lengths: &[usize]) -> Result<(), Refusal>
+    ensures { answered result ≡ firstRow (room_rows lengths.now) }
 {
-    Decision {
-        number: number,
-        at: 0,
-        held: 0,
-        place: 0,
+    if some_short(PANEL_ROOM, lengths) {
+        return Err(Refusal::SliceTooShort);
     }
+    Ok(())
 }
 
-// One of three lists is below 4,096 entries.
-pub fn short_three(a: usize, b: usize, c: usize) -> bool
-    ensures { result ≡ too_short panel_room (a ∷ b ∷ c ∷ []) }
+// The panel with an address: 14, 12, else the place of the address's entry.
+pub fn try_panel(entries: &[Entry], addresses: &[u32], address: u32) -> Result<usize, Refusal>
+    requires { panel_room ≤ length addresses.now }
+    ensures { Tried entries.now addresses.now address result }
 {
-    three_short(PANEL_ROOM, a, b, c)
+    if panel_bad(entries, addresses) {
+        return Err(Refusal::NotAPanel);
+    }
+    place_of(entries, address).ok_or(Refusal::AddressUnknown)
 }
 
-// One of four likewise.
-pub fn short_lists(a: usize, b: usize, c: usize, d: usize) -> bool
-    ensures { result ≡ too_short panel_room (a ∷ b ∷ c ∷ d ∷ []) }
-{
-    let three = short_three(a, b, c);
-    three | (d < PANEL_ROOM)
-}
-
-// The panel with an address: 8, 14, 12, else 0.
-pub fn try_panel(
-    short: bool,
-    many: bool,
-    heads: &[u32],
-    held: &[u32],
-    addresses: &[u32],
-    address: u32,
-) -> u8
-    requires { short ≡ false → Heads heads.now held.now addresses.now }
-    ensures { result ≡ refusal (firstRow (panel_trial short (many || bad_panel (entries_of heads.now held.now) (take (total_held (entries_of heads.now held.now)) addresses.now)) address (entries_of heads.now held.now))) }
-{
-    if short {
-        return 8;
-    }
-    if many {
-        return 14;
-    }
-    let bad = panel_bad(heads, held, addresses);
-    let at = place_of(heads, address);
-    let known = at < heads.len();
-    if bad {
-        14
-    } else if known {
-        0
-    } else {
-        12
-    }
-}
-
-// A range for a head of the panel: its own 4, 5, 6, then 13; else it is accepted.
-fn decide_range(
-    heads: &[u32],
-    held: &[u32],
-    addresses: &[u32],
-    times: &[u32],
-    address: u32,
-    time: u32,
-    low: i32,
-    high: i32,
-) -> Decision
-    requires { Good heads.now held.now addresses.now times.now address }
-    ensures { DecidedRange heads.now held.now addresses.now times.now address (record { time = time; low = low; high = high }) result }
-{
-    let total = total_of(held) as usize;
-    let least = least_time(&addresses[..total], &times[..total], address);
-    let number = try_range(least, time, low, high);
-    if number != 0 {
-        return turned_down(number);
-    }
-    let at = place_of(heads, address);
-    let holds = held[at];
-    let common = common_of(held);
-    if SURE_PLACES <= holds && COMMON_PLACES <= common {
-        return turned_down(13);
-    }
-    Decision {
-        number: 0,
-        at: at,
-        held: holds + 1,
-        place: total,
-    }
-}
-
-// A range for the panel: 8, 14, 12, then its own 4, 5, 6, then 13; else it is accepted.
+// A range for the panel: 14, 12, then its own 4, 5, 6, then 13; else it is accepted.
 pub fn decide(
-    short: bool,
-    many: bool,
-    heads: &[u32],
-    held: &[u32],
+    entries: &[Entry],
     addresses: &[u32],
     times: &[u32],
     address: u32,
     time: u32,
     low: i32,
     high: i32,
-) -> Decision
-    requires { short ≡ false → HeadsTimes heads.now held.now addresses.now times.now }
-    ensures { Decided short many heads.now held.now addresses.now times.now address (record { time = time; low = low; high = high }) result }
+) -> Result<Decision, Refusal>
+    requires { RoomFor addresses.now times.now }
+    ensures { Decided entries.now addresses.now times.now address (record { time = time; low = low; high = high }) result }
 {
-    let number = try_panel(short, many, heads, held, addresses, address);
-    if number != 0 {
-        return turned_down(number);
+    let at = try_panel(entries, addresses, address)?;
+    let total = total_of(entries) as usize;
+    let least = least_time(&addresses[..total], &times[..total], address);
+    try_range(least, time, low, high)?;
+    let held = entries[at].held;
+    let common = common_of(entries);
+    if SURE_PLACES <= held && COMMON_PLACES <= common {
+        return Err(Refusal::PanelFull);
     }
-    decide_range(heads, held, addresses, times, address, time, low, high)
+    Ok(Decision {
+        at,
+        held: held + 1,
+        place: total,
+    })
 }

@@ -1,61 +1,39 @@
-// Counts and sums over plain slices of numbers: what the trial of a panel is made of.
-ghost use Rattle.std.specs.Prelude.{◌≡◌, ℕ, ◌<◌, ◌≤◌, ◌-◌, length, get_or};
-ghost use Rattle.definitions.specs.Spans.{most_heads, sure_places, panel_room};
-ghost use Rattle.panel_laws.specs.Tallies.{sum_of, above_sure, first_place, incremented, tallied, least_from};
+// Counts and sums over the entries of a panel and over the addresses in its places: what the trial of a panel is made of.
+ghost use Rattle.std.specs.Prelude.{◌≡◌, ℕ, ◌<◌, ◌≤◌, length, get_or, position};
+ghost use Rattle.definitions.specs.Spans.{most_heads, panel_room};
+ghost use Rattle.definitions.specs.Panels.{total_held, common_taken, is_at};
+ghost use Rattle.panel_laws.specs.Tallies.{incremented, tallied, least_from};
 
+use definitions::entries::Entry;
 use definitions::limits::SURE_PLACES;
 
-// The place of the first of the addresses that is `address`; as many as there are, if none is.
-pub fn place_of(addresses: &[u32], address: u32) -> usize
-    ensures { result ≡ first_place address addresses.now }
+// The place of the first entry with an address, where there is one.
+#[tactic(auto, unfolding(definitions::specs::Panels::is_at))]
+pub fn place_of(entries: &[Entry], address: u32) -> Option<usize>
+    ensures { result ≡ position (is_at address) entries.now }
 {
-    let mut k = 0;
-    while k < addresses.len() {
-        if addresses[k] == address {
-            return k;
-        }
-        k = k + 1;
-    }
-    k
+    entries.iter().position(|e| e.address == address)
 }
 
 // The places held in all.
-pub fn total_of(held: &[u32]) -> u64
-    requires { length held.now ≤ most_heads }
-    ensures { result ≡ sum_of held.now }
+#[tactic(auto, using(crate::specs::Chains::total_sum))]
+pub fn total_of(entries: &[Entry]) -> u64
+    requires { length entries.now ≤ most_heads }
+    ensures { result ≡ total_held entries.now }
 {
-    let mut sum: u64 = 0;
-    let mut k = 0;
-    while k < held.len() {
-        sum = sum + held[k] as u64;
-        k = k + 1;
-    }
-    sum
+    entries.iter().map(|e| u64::from(e.held)).sum()
 }
 
 // The common places taken: the sum of what each head holds above 32.
-pub fn common_of(held: &[u32]) -> u64
-    requires { length held.now ≤ most_heads }
-    ensures { result ≡ above_sure held.now }
+#[tactic(auto, using(crate::specs::Chains::common_sum))]
+pub fn common_of(entries: &[Entry]) -> u64
+    requires { length entries.now ≤ most_heads }
+    ensures { result ≡ common_taken entries.now }
 {
-    let mut sum: u64 = 0;
-    let mut k = 0;
-    while k < held.len() {
-        sum = sum + above_sure(held[k]);
-        k = k + 1;
-    }
-    sum
-}
-
-// What a head takes of the common places.
-fn above_sure(held: u32) -> u64
-    ensures { result ≡ held - sure_places }
-{
-    if held < SURE_PLACES {
-        0
-    } else {
-        (held - SURE_PLACES) as u64
-    }
+    entries
+        .iter()
+        .map(|e| u64::from(e.held.saturating_sub(SURE_PLACES)))
+        .sum()
 }
 
 // Counts every address in one pass: `counts[a]` rises by how many of the addresses are a. An address past the end of `counts` is not counted.
@@ -63,10 +41,8 @@ pub fn tally(addresses: &[u32], counts: &mut [u16])
     requires { (length addresses.now ≤ panel_room) × ((i : ℕ) → get_or counts.old i 0 ≡ 0) }
     ensures { counts.new ≡ tallied counts.old addresses.now }
 {
-    let mut k = 0;
-    while k < addresses.len() {
-        count_in(counts, addresses[k]);
-        k = k + 1;
+    for address in addresses {
+        count_in(counts, *address);
     }
 }
 
@@ -77,7 +53,7 @@ fn count_in(counts: &mut [u16], address: u32)
 {
     let at = address as usize;
     if at < counts.len() {
-        counts[at] = counts[at] + 1;
+        counts[at] += 1;
     }
 }
 
@@ -87,13 +63,10 @@ pub fn least_time(addresses: &[u32], times: &[u32], address: u32) -> u64
     requires { length times.now ≡ length addresses.now }
     ensures { result ≡ least_from address 0 addresses.now times.now }
 {
-    let mut k = addresses.len();
-    while 0 < k {
-        let last = k - 1;
-        if address == addresses[last] {
-            return times[last] as u64 + 1;
+    for k in (0..addresses.len()).rev() {
+        if addresses[k] == address {
+            return u64::from(times[k]) + 1;
         }
-        k = last;
     }
     0
 }

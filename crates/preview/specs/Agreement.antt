@@ -7,7 +7,8 @@
 --     kinds                            what Preview gives, by the numbers of segments on the lists and on the longer ones
 --
 -- Assumes nothing.
-use Rattle.std.specs.Prelude.{◌≡◌, refl, ◌↔◌, Bool, true, false, cond, ℕ, zero, suc, ◌<◌, ◌+◌, ◌-◌, eqb, length, get_or}
+use Rattle.definitions.specs.declared.refusals.Refusal.{Refusal}
+use Rattle.std.specs.Prelude.{◌≡◌, refl, ◌↔◌, Bool, true, false, cond, ℕ, zero, suc, ◌<◌, ◌+◌, ◌-◌, eqb, length, get_or, Err, Ok, Result}
 use Rattle.std.proofs.Common.{sym, ap, ◌∙◌, subst, arith, length-append}
 use mathlib.Core.List.{List, [], ◌∷◌, ◌++◌, map, get_last_d}
 use Rattle.integers.specs.Lists.{any, last_cons}
@@ -23,13 +24,11 @@ use Rattle.definitions.specs.Previews.{Effect, joins, begins, longer, last_outlo
 use Rattle.splits.specs.Effects.{grown, segments-some, segments_of-length}
 use Rattle.trial_laws.specs.Rows.{NoneHolds, refused_not_accepted}
 use Rattle.trial_laws.specs.CallLaws.{accepted-is}
-use Rattle.drift.specs.declared.SegmentAnswer.TheVariants.{Accepted, Refused}
 use Rattle.drift.specs.Columns.{Columns, lengths, row_at}
 use Rattle.drift.specs.SegmentPromise.{segment_meaning, SegmentPromise}
 use Rattle.drift.specs.Refusals.{segment-accepted}
 use Rattle.drift.specs.GivenColumns.{count-is, row-at}
-use Rattle.drift.specs.declared.SegmentAnswer.{SegmentAnswer}
-use Rattle.preview.specs.declared.PreviewAnswer.{PreviewAnswer}
+use Rattle.preview.specs.declared.Effect.{Effect as EffectOfCode}
 use Rattle.preview.specs.PreviewPromise.{preview_meaning, PreviewPromise}
 use Rattle.preview.specs.GivenEffects.{effect_given, LastEight, numbers-told, Joined, Begun, joins_not_begins, Given, given_joins, given_begins, given, ranges_given}
 
@@ -43,15 +42,15 @@ unfolding segment_rows list_rows
 long-enough lengths v ls none = none.0
 
 -- Segment accepted
-pub none-segmented : {v : Service} {ls : Lists} {old new : Columns} {m : ℕ} → SegmentPromise v ls old new (Accepted m) → NoneHolds (segment_rows (lengths old) v ls)
+pub none-segmented : {v : Service} {ls : Lists} {old new : Columns} {m : ℕ} → SegmentPromise v ls old new (Ok m) → NoneHolds (segment_rows (lengths old) v ls)
 unfolding segment_meaning
 none-segmented segmented = (segment-accepted segmented).0 (ap accepted (count-is segmented))
 
 -- the same of an answer that means acceptance
-pub none-meant : {v : Service} {ls : Lists} {old new : Columns} {answer : SegmentAnswer} → SegmentPromise v ls old new answer → {m : ℕ} → segment_meaning answer ≡ accepted m → NoneHolds (segment_rows (lengths old) v ls)
+pub none-meant : {v : Service} {ls : Lists} {old new : Columns} {answer : Result ℕ Refusal} → SegmentPromise v ls old new answer → {m : ℕ} → segment_meaning answer ≡ accepted m → NoneHolds (segment_rows (lengths old) v ls)
 unfolding segment_meaning
-none-meant {answer = Accepted n} promise e = none-segmented promise
-none-meant {answer = Refused n} promise e = refused_not_accepted e
+none-meant {answer = Ok n} promise e = none-segmented promise
+none-meant {answer = Err n} promise e = refused_not_accepted e
 
 last-at : (d : Outlook) (ss : List Segment) (past : Segment) (k : ℕ) → length ss ≡ suc k → get_last_d (map (λ s. s.outlook) ss) d ≡ (get_or ss k past).outlook
 unfolding get_last_d
@@ -69,7 +68,7 @@ effect_told n ss past k e = by (eqb (length ss) (suc n)) ∙ last-at open_strip 
     by true = refl
     by false = refl
 
-module _ {v : Service} {ls : Lists} {r : Range} {answer : PreviewAnswer} (promise : PreviewPromise v ls r answer) {old new : Columns} {m : ℕ} (segmented : SegmentPromise v (longer ls r) old new (Accepted m)) where
+module _ {v : Service} {ls : Lists} {r : Range} {answer : Result EffectOfCode Refusal} (promise : PreviewPromise v ls r answer) {old new : Columns} {m : ℕ} (segmented : SegmentPromise v (longer ls r) old new (Ok m)) where
   abbrev rs : List Range
   rs = ranges_of ls
 
@@ -93,7 +92,7 @@ module _ {v : Service} {ls : Lists} {r : Range} {answer : PreviewAnswer} (promis
       subst (LastEight (row_at new (m - 1))) (sym (ap effect_outlook effect_is ∙ told))
       (subst (λ row. LastEight row last.outlook) (sym (row-at segmented (m - 1) (omega (arith, longer_some)))) (numbers-told last))
 
-  pub kinds : {old₀ new₀ : Columns} {m₀ : ℕ} → SegmentPromise v ls old₀ new₀ (Accepted m₀) → (Begun answer ↔ (m ≡ m₀ + 1)) × (Joined answer ↔ (m ≡ m₀))
+  pub kinds : {old₀ new₀ : Columns} {m₀ : ℕ} → SegmentPromise v ls old₀ new₀ (Ok m₀) → (Begun answer ↔ (m ≡ m₀ + 1)) × (Joined answer ↔ (m ≡ m₀))
   kinds {m₀ = m₀} before = by (given promise none_previewed) (count-is before ∙ segments_of-length v rs)
     where
       by : Given v ls r answer → m₀ ≡ length (segments rs) → (Begun answer ↔ (m ≡ m₀ + 1)) × (Joined answer ↔ (m ≡ m₀))

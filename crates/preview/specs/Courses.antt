@@ -7,7 +7,9 @@
 --     course_told            and the outlooks told last are those of the segments
 --
 -- Assumes nothing.
-use Rattle.std.specs.Prelude.{◌≡◌, refl, ℕ, suc, ◌<◌, length, get_or, take}
+use Rattle.definitions.specs.declared.refusals.Refusal.TheVariants.{NotAPanel}
+use Rattle.definitions.specs.declared.refusals.Refusal.{Refusal}
+use Rattle.std.specs.Prelude.{◌≡◌, refl, ℕ, suc, ◌<◌, length, get_or, take, Err, Ok, Result}
 use Rattle.std.proofs.Common.{sym, ap, ap₂, ◌∙◌, arith, take-suc}
 use mathlib.Core.List.{List, [], ◌∷◌, ◌++◌, map, head-eq_of_cons-eq, tail-eq_of_cons-eq, nil≢cons}
 use Rattle.definitions.specs.Services.{Service}
@@ -23,25 +25,24 @@ use Rattle.trial_laws.specs.Rows.{refused_not_accepted}
 use Rattle.trial_laws.specs.CallLaws.{accepted-is}
 use Rattle.trial_laws.specs.RangeLists.{zero_range, range_at, ranges_length, ranges-at, first_entries, first-ranges}
 use Rattle.values.specs.Meanings.{outlook_of}
-use Rattle.drift.specs.declared.SegmentAnswer.TheVariants.{Accepted}
 use Rattle.drift.specs.Columns.{Columns}
 use Rattle.drift.specs.SegmentPromise.{SegmentPromise}
 use Rattle.drift.specs.GivenColumns.{taken_good, taken, taken_few}
-use Rattle.preview.specs.declared.PreviewAnswer.{PreviewAnswer}
-use Rattle.preview.specs.declared.PreviewAnswer.TheVariants.{Joins, Begins, Refused}
+use Rattle.preview.specs.declared.Effect.{Effect as EffectOfCode}
+use Rattle.preview.specs.declared.Effect.TheVariants.{Joins, Begins}
 use Rattle.preview.specs.PreviewPromise.{preview_meaning, PreviewPromise}
 use Rattle.preview.specs.GivenEffects.{effect_given}
 use Rattle.preview.specs.FirstRanges.{first_rows}
 
-pub record Course (v : Service) (ls : Lists) (answers : List PreviewAnswer) : Type 0 where
+pub record Course (v : Service) (ls : Lists) (answers : List (Result EffectOfCode Refusal)) : Type 0 where
   pub as_many : length answers ≡ length ls.times
-  pub each : (k : ℕ) → k < length ls.times → PreviewPromise v (first_entries k ls) (range_at ls k) (get_or answers k (Refused 0))
+  pub each : (k : ℕ) → k < length ls.times → PreviewPromise v (first_entries k ls) (range_at ls k) (get_or answers k (Err NotAPanel))
 
-unfoldable pub effects_in : List PreviewAnswer → List Effect
+unfoldable pub effects_in : List (Result EffectOfCode Refusal) → List Effect
 effects_in [] = []
-effects_in (Joins o ∷ answers) = joins (outlook_of o) ∷ effects_in answers
-effects_in (Begins o ∷ answers) = begins (outlook_of o) ∷ effects_in answers
-effects_in (Refused n ∷ answers) = effects_in answers
+effects_in (Ok (Joins o) ∷ answers) = joins (outlook_of o) ∷ effects_in answers
+effects_in (Ok (Begins o) ∷ answers) = begins (outlook_of o) ∷ effects_in answers
+effects_in (Err n ∷ answers) = effects_in answers
 
 -- lists whose entries are mapped alike, place by place
 map-alike : {A B C : Type 0} (f : A → C) (g : B → C) (xs : List A) (ys : List B) (past : A) (past' : B) → length xs ≡ length ys
@@ -51,16 +52,16 @@ map-alike f g [] (y ∷ ys) past past' e h = absurd (omega arith)
 map-alike f g (x ∷ xs) [] past past' e h = absurd (omega arith)
 map-alike f g (x ∷ xs) (y ∷ ys) past past' e h = ap₂ (λ c cs. c ∷ cs) (h 0 (omega arith)) (map-alike f g xs ys past past' (omega arith) (λ k l. h (suc k) (omega arith)))
 
-told-effects : (answers : List PreviewAnswer) (es : List Effect) → map preview_meaning answers ≡ map accepted es → effects_in answers ≡ es
+told-effects : (answers : List (Result EffectOfCode Refusal)) (es : List Effect) → map preview_meaning answers ≡ map accepted es → effects_in answers ≡ es
 unfolding effects_in preview_meaning
 told-effects [] [] e = refl
 told-effects [] (x ∷ es) e = absurd (nil≢cons e)
 told-effects (a ∷ answers) [] e = absurd (nil≢cons (sym e))
-told-effects (Joins o ∷ answers) (x ∷ es) e = ap₂ (λ y ys. y ∷ ys) (accepted-is (head-eq_of_cons-eq e)) (told-effects answers es (tail-eq_of_cons-eq e))
-told-effects (Begins o ∷ answers) (x ∷ es) e = ap₂ (λ y ys. y ∷ ys) (accepted-is (head-eq_of_cons-eq e)) (told-effects answers es (tail-eq_of_cons-eq e))
-told-effects (Refused n ∷ answers) (x ∷ es) e = refused_not_accepted (head-eq_of_cons-eq e)
+told-effects (Ok (Joins o) ∷ answers) (x ∷ es) e = ap₂ (λ y ys. y ∷ ys) (accepted-is (head-eq_of_cons-eq e)) (told-effects answers es (tail-eq_of_cons-eq e))
+told-effects (Ok (Begins o) ∷ answers) (x ∷ es) e = ap₂ (λ y ys. y ∷ ys) (accepted-is (head-eq_of_cons-eq e)) (told-effects answers es (tail-eq_of_cons-eq e))
+told-effects (Err n ∷ answers) (x ∷ es) e = refused_not_accepted (head-eq_of_cons-eq e)
 
-module _ {v : Service} {ls : Lists} {answers : List PreviewAnswer} (course : Course v ls answers) {old new : Columns} {m : ℕ} (segmented : SegmentPromise v ls old new (Accepted m)) where
+module _ {v : Service} {ls : Lists} {answers : List (Result EffectOfCode Refusal)} (course : Course v ls answers) {old new : Columns} {m : ℕ} (segmented : SegmentPromise v ls old new (Ok m)) where
   abbrev rs : List Range
   rs = ranges_of ls
 
@@ -68,7 +69,7 @@ module _ {v : Service} {ls : Lists} {answers : List PreviewAnswer} (course : Cou
   many = ranges_length ls (taken segmented).same
 
   -- the k-th answer tells the k-th effect
-  effect_at : (k : ℕ) → k < length ls.times → preview_meaning (get_or answers k (Refused 0)) ≡ accepted (get_or (effects v rs) k (joins open_strip))
+  effect_at : (k : ℕ) → k < length ls.times → preview_meaning (get_or answers k (Err NotAPanel)) ≡ accepted (get_or (effects v rs) k (joins open_strip))
   effect_at k h =
       let none = first_rows (taken segmented) v (taken_good segmented) (taken_few segmented) k h in
       let next-taken = sym (take-suc rs k zero_range (omega (arith, many)) ∙ ap (λ r. take k rs ++ (r ∷ [])) (ranges-at ls (taken segmented).same k)) in
@@ -79,7 +80,7 @@ module _ {v : Service} {ls : Lists} {answers : List PreviewAnswer} (course : Cou
 
   pub course_meanings : map preview_meaning answers ≡ map accepted (effects v rs)
   course_meanings =
-      map-alike preview_meaning accepted answers (effects v rs) (Refused 0) (joins open_strip) (course.as_many ∙ sym (effects_length v rs ∙ many))
+      map-alike preview_meaning accepted answers (effects v rs) (Err NotAPanel) (joins open_strip) (course.as_many ∙ sym (effects_length v rs ∙ many))
       (λ k h. effect_at k (omega (arith, course.as_many)))
 
   pub course_effects : effects_in answers ≡ effects v rs

@@ -4,15 +4,19 @@
 --     effect_on_lem          the effect on the lists is that after their ranges
 --     EffectGiven        the answer is the effect of the range
 --     given_closed       the last run ends before the range: it begins a segment, which is open
+--     polygon_joined     it goes up to the range: its polygon
 --     given_joined       the last run goes up to the range: it joins, with the outlook of the run's two lines
 --     promise_refused    a row holds
 --     promise_empty      none holds, and the lists are empty
 --     promise_effect     none holds, and the answer is the effect
 --
 -- Assumes nothing.
-use Rattle.std.specs.Prelude.{◌≡◌, ℕ, ◌+◌, ◌-◌, ◌≤◌, ◌<◌}
+use Rattle.definitions.specs.Refusals.{refusal_number}
+use Rattle.definitions.specs.declared.refusals.Refusal.{Refusal}
+use Rattle.std.specs.Prelude.{◌≡◌, Option, None, Some, ℕ, ◌+◌, ◌-◌, ◌≤◌, ◌<◌, Err, Ok}
 use Rattle.std.proofs.Math.Path.{refl, sym, ap}
 use Rattle.std.proofs.Common.{◌∙◌, subst, le_refl, le_of_lt, arith, take_all}
+use Rattle.std.proofs.lemmas.Option.{MatchOption-at_some, MatchOption-at_none}
 use mathlib.Core.List.{List, [], ◌∷◌, ◌++◌}
 use Rattle.std.proofs.Math.ListN.{length}
 use Rattle.integers.specs.Booleans.{T→true, ¬T→false}
@@ -39,12 +43,13 @@ use Rattle.values.specs.Meanings.{line_of, outlook_of}
 use Rattle.values.specs.Reach.{look_ahead}
 use Rattle.fit.specs.declared.run.Reach.{Reach}
 use Rattle.fit.specs.declared.last_run.Found.{Found}
-use Rattle.fit.specs.RunsFrom.{RunFrom}
+use Rattle.fit.specs.declared.polygon.Polygon.{Polygon}
+use Rattle.fit.specs.RunsFrom.{PolygonAt, polygon_some, RunFrom}
 use Rattle.fit.specs.RunOutlooks.{run_outlook}
 use Rattle.fit.specs.LastRuns.{LastRun}
-use Rattle.preview.specs.declared.PreviewAnswer.{PreviewAnswer}
-use Rattle.preview.specs.declared.PreviewAnswer.TheVariants.{Joins, Begins, Refused}
-use Rattle.preview.specs.PreviewPromise.{preview_meaning, PreviewPromise}
+use Rattle.preview.specs.declared.Effect.{Effect as EffectOfCode}
+use Rattle.preview.specs.declared.Effect.TheVariants.{Joins, Begins}
+use Rattle.preview.specs.PreviewPromise.{effect_meaning, preview_meaning, PreviewPromise}
 use Rattle.preview.specs.LongerRuns.{run-longer, RunWith}
 
 pub record Unrefused (v : Service) (ls : Lists) (r : Range) : Type 0 where
@@ -56,8 +61,8 @@ pub record Unrefused (v : Service) (ls : Lists) (r : Range) : Type 0 where
 pub effect_on_lem : (v : Service) (ls : Lists) (r : Range) → SameLength ls → effect_on v ls r ≡ effect_after v (ranges_of ls) r
 effect_on_lem v ls r same = ap (λ rs. effect_of (length (segments (ranges_of ls))) (segments_of v rs)) (longer_ranges ls r same)
 
-pub record EffectGiven (v : Service) (ls : Lists) (r : Range) (answer : PreviewAnswer) : Type 0 where
-  pub answer_is : preview_meaning answer ≡ accepted (effect_on v ls r)
+pub record EffectGiven (v : Service) (ls : Lists) (r : Range) (effect : EffectOfCode) : Type 0 where
+  pub effect_is : effect_meaning effect ≡ effect_on v ls r
 
 -- ---- from the run that was found
 module _ {v : Service} {ls : Lists} {r : Range} (u : Unrefused v ls r) where
@@ -76,9 +81,12 @@ module _ {v : Service} {ls : Lists} {r : Range} (u : Unrefused v ls r) where
   same : SameLength ls
   same = (shorter_accepted ls r a).same
 
-  module _ {up₀ down₀ : Chain} {found : Found} (z : LastRun ls n up₀ down₀ found) {up down : Chain} {reach : Reach} (w : RunWith ls r found.start up down reach) where
+  module _ {up₀ down₀ : Chain} {found : Found} (z : LastRun ls n up₀ down₀ found) {up down : Chain} {joined : Option Polygon} (w : RunWith ls r found.start up down joined) where
     abbrev i : ℕ
     i = found.start
+
+    abbrev reach : Reach
+    reach = w.reach
 
     f : RunFrom more i (n + 1) up down reach
     f = w.found
@@ -103,19 +111,25 @@ module _ {v : Service} {ls : Lists} {r : Range} (u : Unrefused v ls r) where
     some_ranges : 0 < length (ranges_of ls)
     some_ranges = omega (arith, u.some, ranges_length ls same)
 
-    pub given_closed : reach.end ≤ n → EffectGiven v ls r (Begins Open)
-    unfolding preview_meaning outlook_of
+    pub given_closed : joined ≡ None → EffectGiven v ls r (Begins Open)
+    unfolding outlook_of
     given_closed h =
-        let end : reach.end ≡ n = omega (arith, h, w.goes) in
-        record { answer_is = ap accepted (sym (effect_on_lem v ls r same ∙ effect_begins v (ranges_of ls) r some_ranges (¬T→false (λ t. no_line end (decides.means (last ++ (r ∷ [])) order t))))) }
+        let end : reach.end ≡ n = MatchOption-at_none (reach.end ≡ n) (λ x. (reach.end ≡ n + 1) × (reach.polygon ≡ Some x)) h w.joined in
+        record { effect_is = sym (effect_on_lem v ls r same ∙ effect_begins v (ranges_of ls) r some_ranges (¬T→false (λ t. no_line end (decides.means (last ++ (r ∷ [])) order t)))) }
       where
         no_line : reach.end ≡ n → HasLine (last ++ (r ∷ [])) → ⊥
         no_line end line =
             f.closed (omega arith) (subst HasLine (with_range ∙ run_more more a i n (le_of_lt z.begins) (omega (arith, longer_length ls r)) ∙ ap (λ e. run more i e ++ (range_at more e ∷ [])) (sym end)) line)
 
-    module _ (h : n < reach.end) where
+    module _ {x : Polygon} (h : joined ≡ Some x) where
+      joins_with : (reach.end ≡ n + 1) × (reach.polygon ≡ Some x)
+      joins_with = MatchOption-at_some (reach.end ≡ n) (λ x. (reach.end ≡ n + 1) × (reach.polygon ≡ Some x)) x h w.joined
+
       end_is : reach.end ≡ n + 1
-      end_is = omega (arith, h, f.within)
+      end_is = joins_with.0
+
+      pub polygon_joined : (i + 2 ≤ reach.end) × PolygonAt more up down i reach.end x
+      polygon_joined = polygon_some joins_with.1 f.polygon_is
 
       line : HasLine (last ++ (r ∷ []))
       line = subst HasLine (ap (run more i) end_is ∙ sym with_range) f.line
@@ -125,16 +139,15 @@ module _ {v : Service} {ls : Lists} {r : Range} (u : Unrefused v ls r) where
           let k : reach.end - 1 ≡ n = omega (arith, end_is) in
           ap (λ t. t.time) (ap (range_at more) k ∙ longer_last ls r same)
 
-      pub given_joined : {o : Outlook} → outlook_of o ≡ look_ahead (line_of reach.polygon.slow) (line_of reach.polygon.fast) v r.time → EffectGiven v ls r (Joins o)
-      unfolding preview_meaning
+      pub given_joined : {o : Outlook} → outlook_of o ≡ look_ahead (line_of x.slow) (line_of x.fast) v r.time → EffectGiven v ls r (Joins o)
       given_joined {o} e =
           let joined = effect_on_lem v ls r same ∙ effect_joins v (ranges_of ls) r some_ranges (T→true (decides.passes (last ++ (r ∷ [])) order line)) in
-          let seen = run_outlook a (omega (arith, longer_length ls r)) f (omega (arith, z.begins, end_is)) v u.good in
+          let seen = run_outlook a (omega (arith, longer_length ls r)) f polygon_joined.0 v u.good polygon_joined.1 in
           record {
-            answer_is =
-                ap (λ o. accepted (joins o))
-                (e ∙ ap (look_ahead (line_of reach.polygon.slow) (line_of reach.polygon.fast) v) (sym time_is) ∙ sym seen ∙ ap (λ e. outlook v (run more i e)) end_is ∙ ap (outlook v) (sym with_range))
-                ∙ ap accepted (sym joined);
+            effect_is =
+                ap joins
+                (e ∙ ap (look_ahead (line_of x.slow) (line_of x.fast) v) (sym time_is) ∙ sym seen ∙ ap (λ e. outlook v (run more i e)) end_is ∙ ap (outlook v) (sym with_range))
+                ∙ sym joined;
           }
 
 -- ---- the promise
@@ -142,18 +155,18 @@ module _ (v : Service) (ls : Lists) (r : Range) where
   called : {x : Answer Unit} → firstRow (preview_rows v ls r) ≡ x → (x >>= λ ok. accepted (effect_on v ls r)) ≡ preview_call v ls r
   called e = ap (λ x. x >>= λ ok. accepted (effect_on v ls r)) (sym e) ∙ sym (preview_by_rows v ls r)
 
-  pub promise_refused : (m : ℕ) → firstRow (preview_rows v ls r) ≡ refused m → PreviewPromise v ls r (Refused m)
+  pub promise_refused : (e : Refusal) → firstRow (preview_rows v ls r) ≡ refused (refusal_number e) → PreviewPromise v ls r (Err e)
   unfolding preview_meaning ◌>>=◌
   promise_refused m e = record { answer_is = called e }
 
-  pub promise_effect : {answer : PreviewAnswer} → firstRow (preview_rows v ls r) ≡ accepted tt → EffectGiven v ls r answer → PreviewPromise v ls r answer
-  unfolding ◌>>=◌
-  promise_effect e given = record { answer_is = given.answer_is ∙ called e }
+  pub promise_effect : {effect : EffectOfCode} → firstRow (preview_rows v ls r) ≡ accepted tt → EffectGiven v ls r effect → PreviewPromise v ls r (Ok effect)
+  unfolding preview_meaning ◌>>=◌
+  promise_effect e given = record { answer_is = ap accepted given.effect_is ∙ called e }
 
-  pub promise_empty : firstRow (preview_rows v ls r) ≡ accepted tt → SameLength ls → length ls.times ≡ 0 → PreviewPromise v ls r (Begins Open)
-  unfolding preview_meaning outlook_of
+  pub promise_empty : firstRow (preview_rows v ls r) ≡ accepted tt → SameLength ls → length ls.times ≡ 0 → PreviewPromise v ls r (Ok (Begins Open))
+  unfolding outlook_of
   promise_empty e same zero =
-      promise_effect e (record { answer_is = ap accepted (sym (effect_on_lem v ls r same ∙ ap (λ rs. effect_after v rs r) (no-ranges (ranges_of ls) (ranges_length ls same ∙ zero)) ∙ effect_first v r)) })
+      promise_effect e (record { effect_is = sym (effect_on_lem v ls r same ∙ ap (λ rs. effect_after v rs r) (no-ranges (ranges_of ls) (ranges_length ls same ∙ zero)) ∙ effect_first v r) })
     where
       no-ranges : (rs : List Range) → length rs ≡ 0 → rs ≡ []
       no-ranges [] h = refl

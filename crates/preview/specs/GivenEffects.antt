@@ -9,7 +9,8 @@
 --     numbers-told                     a segment's row has those of its outlook
 --
 -- Assumes nothing.
-use Rattle.std.specs.Prelude.{◌≡◌, refl, ◌↔◌, ◌⊎◌, ℕ, suc, ◌<◌, ◌≤◌, T, length}
+use Rattle.definitions.specs.declared.refusals.Refusal.{Refusal}
+use Rattle.std.specs.Prelude.{◌≡◌, refl, ◌↔◌, ◌⊎◌, ℕ, suc, ◌<◌, ◌≤◌, T, length, Result}
 use Rattle.std.proofs.Common.{sym, ap, ◌∙◌, subst, inl, inr, arith, length-append}
 use mathlib.Core.List.{List, [], ◌∷◌, ◌++◌, flatten, drop_last, append_assoc}
 use Rattle.integers.specs.Booleans.{true→T, false→¬T}
@@ -35,7 +36,7 @@ use Rattle.trial_laws.specs.CallLaws.{call-accepted}
 use Rattle.trial_laws.specs.RangeLists.{SameLength, ranges_length}
 use Rattle.trial_laws.specs.Accepted.{GoodService, AcceptedLists}
 use Rattle.trial_laws.specs.LongerLists.{longer_same, longer_ranges, effect_on, preview_by_rows, preview-accepted}
-use Rattle.preview.specs.declared.PreviewAnswer.{PreviewAnswer}
+use Rattle.preview.specs.declared.Effect.{Effect as EffectOfCode}
 use Rattle.preview.specs.PreviewPromise.{preview_meaning, PreviewPromise}
 use Rattle.preview.specs.FoundEffects.{effect_on_lem}
 
@@ -69,13 +70,13 @@ grown-outlook v good rs r h o line =
 
 -- ---- the effect given
 
-abbrev pub Taken : PreviewAnswer → Type 0
+abbrev pub Taken : Result EffectOfCode Refusal → Type 0
 Taken answer = (e : Effect) × (preview_meaning answer ≡ accepted e)
 
-abbrev pub Joined : PreviewAnswer → Type 0
+abbrev pub Joined : Result EffectOfCode Refusal → Type 0
 Joined answer = (o : Outlook) × (preview_meaning answer ≡ accepted (joins o))
 
-abbrev pub Begun : PreviewAnswer → Type 0
+abbrev pub Begun : Result EffectOfCode Refusal → Type 0
 Begun answer = (o : Outlook) × (preview_meaning answer ≡ accepted (begins o))
 
 pub joins-is : {o p : Outlook} → accepted (joins o) ≡ accepted (joins p) → o ≡ p
@@ -88,13 +89,13 @@ pub joins_not_begins : {X : Type 0} {o p : Outlook} → accepted (joins o) ≡ a
 joins_not_begins e = absurd (let z : ◌≡◌ {A = ℕ} 0 1 = cc in omega arith)
 
 -- what no row's holding gives: two cases, each with what the range does to the number of segments
-pub data Given (v : Service) (ls : Lists) (r : Range) (answer : PreviewAnswer) : Type 0 where
+pub data Given (v : Service) (ls : Lists) (r : Range) (answer : Result EffectOfCode Refusal) : Type 0 where
   given_joins : 0 < length ls.times → LinesOf v (grown (ranges_of ls) r) r.time (outlook v (grown (ranges_of ls) r)) → HasLine (grown (ranges_of ls) r)
       → preview_meaning answer ≡ accepted (joins (outlook v (grown (ranges_of ls) r))) → length (segments (ranges_of ls ++ (r ∷ []))) ≡ length (segments (ranges_of ls)) → Given v ls r answer
   given_begins : (length ls.times ≡ 0) ⊎ ¬ HasLine (grown (ranges_of ls) r) → preview_meaning answer ≡ accepted (begins open_strip)
       → length (segments (ranges_of ls ++ (r ∷ []))) ≡ suc (length (segments (ranges_of ls))) → Given v ls r answer
 
-module _ {v : Service} {ls : Lists} {r : Range} {answer : PreviewAnswer} (promise : PreviewPromise v ls r answer) where
+module _ {v : Service} {ls : Lists} {r : Range} {answer : Result EffectOfCode Refusal} (promise : PreviewPromise v ls r answer) where
   abbrev rs : List Range
   rs = ranges_of ls
 

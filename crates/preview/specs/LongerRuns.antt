@@ -1,13 +1,13 @@
 -- The last run of some lists, as a run of the lists with one range more.
 --
 --     run-longer             a run of the lists is a run of the longer lists
---     RunWith                the last run, which begins at i, among the ranges and one more: it goes up to the end of the lists at least
+--     RunWith                the last run, which begins at i, among the ranges and one more: it goes up to the end of the lists, or the new one joins it, and then its polygon is given
 --     with_second            it has one range: the new one joins it
 --     alone, alone-accepted  lists of one range; they are acceptable if it is proper
---     with_gone              it has more: where its polygon goes on over these lists
+--     with_gone, with_none   it has more: where its polygon goes on over these lists, and where it does not
 --
 -- Assumes nothing.
-use Rattle.std.specs.Prelude.{◌≡◌, refl, [], ◌∷◌, ℕ, zero, suc, ◌+◌, ◌-◌, ◌≤◌, ◌<◌, length, take, drop}
+use Rattle.std.specs.Prelude.{◌≡◌, refl, Option, None, Some, MatchOption, [], ◌∷◌, ℕ, zero, suc, ◌+◌, ◌-◌, ◌≤◌, ◌<◌, length, take, drop}
 use Rattle.std.proofs.Common.{sym, ap, ap₂, ◌∙◌, subst, add-zero, arith, length-drop}
 use Rattle.std.proofs.lemmas.List.{take-append-le, drop-append-le}
 use Rattle.integers.specs.Lists.{nil, cons}
@@ -26,7 +26,7 @@ use Rattle.fit.specs.declared.last_run.Found.{Found}
 use Rattle.fit.specs.declared.run.Reach.{Reach}
 use Rattle.fit.specs.RangesByValue.{range_of}
 use Rattle.fit.specs.Joins.{StartedAt}
-use Rattle.fit.specs.RunsFrom.{Running, running_start, RunFrom, run_over}
+use Rattle.fit.specs.RunsFrom.{Running, running_start, polygon_some, polygon_none, RunFrom, run_over}
 use Rattle.fit.specs.RunsOn.{SameFrom, GoneOn}
 use Rattle.fit.specs.LastRuns.{LastRun}
 
@@ -44,9 +44,10 @@ pub alone-accepted : (r : RangeTerm) → ProperRange r → AcceptedLists (alone 
 unfolding ranges_of zip_ranges
 alone-accepted r p = accepted-lists (alone r) (record { lows_long = refl; highs_long = refl }) (record { each = cons p nil; ordered = (p.low_high, nil, tt) })
 
-pub record RunWith (ls : Lists) (r : RangeTerm) (i : ℕ) (up down : Chain) (x : Reach) : Type 0 where
-  pub found : RunFrom (longer ls r) i (length ls.times + 1) up down x
-  pub goes : length ls.times ≤ x.end
+pub record RunWith (ls : Lists) (r : RangeTerm) (i : ℕ) (up down : Chain) (o : Option Polygon) : Type 0 where
+  pub reach : Reach
+  pub found : RunFrom (longer ls r) i (length ls.times + 1) up down reach
+  pub joined : MatchOption o (reach.end ≡ length ls.times) (λ x. (reach.end ≡ length ls.times + 1) × (reach.polygon ≡ Some x))
 
 module _ (ls : Lists) (r : Range) (a : AcceptedLists (longer ls (range_of r))) where
   abbrev more : Lists
@@ -73,33 +74,40 @@ module _ (ls : Lists) (r : Range) (a : AcceptedLists (longer ls (range_of r))) w
         ap₂ (λ s t. polygon s t (run more (i + 2) n)) (longer_at ls (range_of r) same i (omega arith)) (longer_at ls (range_of r) same (i + 1) (omega arith))
         ∙ ap (polygon (range_at ls i) (range_at ls (i + 1))) (run-longer ls (range_of r) same (i + 2) n two (omega arith))
 
-    running : i + 2 ≤ n → Running more up down i n last.polygon
-    running two =
-        let p = z.polygon_is two in
+    running : {x : Polygon} → last.polygon ≡ Some x → Running more up down i n x
+    running e =
+        let (two, p) = polygon_some e z.polygon_is in
         let b = z.begins in
         record { is = p.is ∙ sym (polygon_longer two); line = subst HasLine (sym (run-longer ls (range_of r) same i n (omega arith) (omega arith))) z.line; shape = p.shape; few = p.few }
 
-    pub with_second : n < i + 2 → {up' down' : Chain} {first : Range} {x : Polygon} → range_of first ≡ range_at ls i → StartedAt first r up' down' x → RunWith ls (range_of r) i up' down' (record { end = n + 1; polygon = x })
-    with_second one {up'} {down'} {first} {x} e s =
+    pub with_second : last.polygon ≡ None → {up' down' : Chain} {first : Range} {x : Polygon} → range_of first ≡ range_at ls i → StartedAt first r up' down' x → RunWith ls (range_of r) i up' down' (Some x)
+    with_second none {up'} {down'} {first} {x} e s =
         let b = z.begins in
+        let one = polygon_none none z.polygon_is in
         let m : i + 1 ≡ n = omega arith in
         let k : i + 2 ≡ n + 1 = omega arith in
         let began = running_start a i (omega (arith, long)) (e ∙ sym (longer_at ls (range_of r) same i b)) (new_at ∙ ap (range_at more) (sym m)) s in
-        record { found = run_over a i (n + 1) (n + 1) (omega arith) (omega (arith, long)) (subst (λ e. Running more up' down' i e x) k began) (omega arith) (omega arith); goes = omega arith }
-
-    pub with_gone : i + 2 ≤ n → {stored : Lists} → alone (range_of r) ≡ stored → {up' down' : Chain} {x : Reach} → GoneOn stored up down last.polygon 0 1 up' down' x
-        → RunWith ls (range_of r) i up' down' (record { end = n + x.end; polygon = x.polygon })
-    with_gone two {stored} is {up'} {down'} {x} g =
-        let e : n + (x.end - 0) ≡ n + x.end = omega arith in
-        let one : n + (1 - 0) ≡ n + 1 = omega arith in
         record {
-          found =
-              subst (λ m. RunFrom more i m up' down' (record { end = n + x.end; polygon = x.polygon })) one
-              (subst (λ e. RunFrom more i (n + (1 - 0)) up' down' (record { end = e; polygon = x.polygon })) e
-              (g.goes a i n two (omega (arith, long)) same_new (running two)));
-          goes = omega arith;
+          reach = record { end = n + 1; polygon = Some x };
+          found = run_over a i (n + 1) (n + 1) (omega arith) (omega (arith, long)) (subst (λ e. Running more up' down' i e x) k began) (omega arith) (omega arith);
+          joined = (refl, refl);
         }
-      where
-        same_new : SameFrom stored 0 more n (1 - 0)
-        same_new zero h = ap (λ l. range_at l 0) (sym is) ∙ new_at ∙ ap (range_at more) (sym (add-zero n))
-        same_new (suc d) h = absurd (omega arith)
+
+    module _ {before : Polygon} (was : last.polygon ≡ Some before) {stored : Lists} (is : alone (range_of r) ≡ stored) {up' down' : Chain} {e : ℕ} {x : Polygon} (g : GoneOn stored up down before 0 1 up' down' (record { end = e; polygon = x })) where
+      same_new : SameFrom stored 0 more n (1 - 0)
+      same_new zero h = ap (λ l. range_at l 0) (sym is) ∙ new_at ∙ ap (range_at more) (sym (add-zero n))
+      same_new (suc d) h = absurd (omega arith)
+
+      gone : (m : ℕ) → n + e ≡ m → RunFrom more i (n + 1) up' down' (record { end = m; polygon = Some x })
+      gone m p =
+          let k : n + (e - 0) ≡ m = omega arith in
+          let one : n + (1 - 0) ≡ n + 1 = omega arith in
+          subst (λ u. RunFrom more i u up' down' (record { end = m; polygon = Some x })) one
+          (subst (λ e. RunFrom more i (n + (1 - 0)) up' down' (record { end = e; polygon = Some x })) k
+          (g.goes a i n (polygon_some was z.polygon_is).0 (omega (arith, long)) same_new (running was)))
+
+      pub with_gone : 0 < e → RunWith ls (range_of r) i up' down' (Some x)
+      with_gone h = record { reach = record { end = n + 1; polygon = Some x }; found = gone (n + 1) (omega (arith, g.within)); joined = (refl, refl) }
+
+      pub with_none : e ≡ 0 → RunWith ls (range_of r) i up' down' None
+      with_none h = record { reach = record { end = n; polygon = Some x }; found = gone n (omega arith); joined = refl }

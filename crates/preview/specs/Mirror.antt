@@ -26,8 +26,6 @@ use Rattle.trial_laws.proofs.MirroredTrial.{ranges-mirrored}
 use Rattle.lines.specs.Mirrored.{mirrored}
 use Rattle.lines.specs.MirroredFit.{segments-mirrored}
 use Rattle.drift.specs.MirroredCalls.{segment_call_mirrored}
-use Rattle.preview.specs.declared.PreviewAnswer.{PreviewAnswer}
-use Rattle.preview.specs.PreviewPromise.{preview_meaning, PreviewPromise}
 
 -- ---- the effect
 

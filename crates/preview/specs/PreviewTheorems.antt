@@ -20,7 +20,9 @@
 --     course_count, course_outlooks    the outlooks told last of each segment: as many as Segment gave, and the j-th has the last eight numbers of the j-th row
 --
 -- Assumes nothing.
-use Rattle.std.specs.Prelude.{◌≡◌, ◌↔◌, ◌⊎◌, false, List, [], ℕ, ◌+◌, ◌-◌, ◌<◌, length}
+use Rattle.definitions.specs.Refusals.{refusal_number}
+use Rattle.definitions.specs.declared.refusals.Refusal.{Refusal}
+use Rattle.std.specs.Prelude.{◌≡◌, ◌↔◌, ◌⊎◌, false, List, [], ℕ, ◌+◌, ◌-◌, ◌<◌, length, Err, Ok, Result}
 use Rattle.std.proofs.Common.{sym, ◌∙◌, inl, inr, arith}
 use Rattle.std.proofs.Math.Path.{ap, subst}
 use Rattle.std.proofs.Math.ListN.{get_or, get_or-map}
@@ -39,14 +41,11 @@ use Rattle.splits.specs.Effects.{grown, effect_after, effects, begun_in, last_ou
 use Rattle.splits.proofs.Effects.{effects_begun}
 use Rattle.lines.specs.RunOutlook.{LinesOf}
 use Rattle.trial_laws.specs.Rows.{NoneHolds, FirstAt, refused_not_accepted}
-use Rattle.drift.specs.declared.SegmentAnswer.{SegmentAnswer}
-use Rattle.drift.specs.declared.SegmentAnswer.TheVariants.{Accepted}
 use Rattle.drift.specs.Columns.{Columns, lengths, row_at}
 use Rattle.drift.specs.SegmentPromise.{segment_meaning, SegmentPromise}
 use Rattle.drift.specs.Refusals.{segment_refused, segment-accepted}
 use Rattle.drift.specs.GivenColumns.{count-is, row-at}
-use Rattle.preview.specs.declared.PreviewAnswer.{PreviewAnswer}
-use Rattle.preview.specs.declared.PreviewAnswer.TheVariants.{Refused}
+use Rattle.preview.specs.declared.Effect.{Effect as EffectOfCode}
 use Rattle.preview.specs.PreviewPromise.{preview_meaning, PreviewPromise}
 use Rattle.preview.specs.Refusals.{preview-refused}
 use Rattle.preview.specs.GivenEffects.{Taken, Joined, Begun, joins-is, begins-is, joins_not_begins, Given, given_joins, given_begins, given, none_given, effect_given, LastEight, numbers-told}
@@ -55,7 +54,7 @@ use Rattle.preview.specs.Courses.{Course, effects_in, course_meanings, course_ef
 
 -- ---- one preview
 
-module _ {v : Service} {ls : Lists} {r : Range} {answer : PreviewAnswer} (promise : PreviewPromise v ls r answer) where
+module _ {v : Service} {ls : Lists} {r : Range} {answer : Result EffectOfCode Refusal} (promise : PreviewPromise v ls r answer) where
   pub begins_open : {o : Outlook} → preview_meaning answer ≡ accepted (begins o) → o ≡ open_strip
   begins_open {o} e = by (given promise (none_given promise (begins o) e))
     where
@@ -96,8 +95,8 @@ module _ {v : Service} {ls : Lists} {r : Range} {answer : PreviewAnswer} (promis
 
 -- ---- against Segment
 
-module _ {v : Service} {ls : Lists} {r : Range} {answer : PreviewAnswer} (promise : PreviewPromise v ls r answer) where
-  module _ {old new : Columns} {answer' : SegmentAnswer} (segmented : SegmentPromise v (longer ls r) old new answer') (room : too_short segment_room (lengths old) ≡ false) where
+module _ {v : Service} {ls : Lists} {r : Range} {answer : Result EffectOfCode Refusal} (promise : PreviewPromise v ls r answer) where
+  module _ {old new : Columns} {answer' : Result ℕ Refusal} (segmented : SegmentPromise v (longer ls r) old new answer') (room : too_short segment_room (lengths old) ≡ false) where
     pub agrees-refused : (n : ℕ) → (preview_meaning answer ≡ refused n) ↔ (segment_meaning answer' ≡ refused n)
     agrees-refused n =
         let same = rows_same (lengths old) v (longer ls r) room in (
@@ -112,14 +111,14 @@ module _ {v : Service} {ls : Lists} {r : Range} {answer : PreviewAnswer} (promis
           λ t. (effect_after v (ranges_of ls) r, effect_given promise (subst NoneHolds same (none-meant segmented t.1))),
         )
 
-  module _ {old new : Columns} {m : ℕ} (segmented : SegmentPromise v (longer ls r) old new (Accepted m)) where
+  module _ {old new : Columns} {m : ℕ} (segmented : SegmentPromise v (longer ls r) old new (Ok m)) where
     pub agrees-some : 0 < m
     agrees-some = longer_some promise segmented
 
     pub agrees_outlook : {e : Effect} → preview_meaning answer ≡ accepted e → LastEight (row_at new (m - 1)) (effect_outlook e)
     agrees_outlook = last_told promise segmented
 
-    module _ {old₀ new₀ : Columns} {m₀ : ℕ} (before : SegmentPromise v ls old₀ new₀ (Accepted m₀)) where
+    module _ {old₀ new₀ : Columns} {m₀ : ℕ} (before : SegmentPromise v ls old₀ new₀ (Ok m₀)) where
       pub agrees_begins : Begun answer ↔ (m ≡ m₀ + 1)
       agrees_begins = (kinds promise segmented before).0
 
@@ -128,11 +127,11 @@ module _ {v : Service} {ls : Lists} {r : Range} {answer : PreviewAnswer} (promis
 
 -- ---- a course of previews
 
-module _ {v : Service} {ls : Lists} {answers : List PreviewAnswer} (course : Course v ls answers) {old new : Columns} {m : ℕ} (segmented : SegmentPromise v ls old new (Accepted m)) where
-  pub course_accepted : (n : ℕ) → ¬ In (Refused n) answers
+module _ {v : Service} {ls : Lists} {answers : List (Result EffectOfCode Refusal)} (course : Course v ls answers) {old new : Columns} {m : ℕ} (segmented : SegmentPromise v ls old new (Ok m)) where
+  pub course_accepted : (e : Refusal) → ¬ In (Err e) answers
   unfolding preview_meaning
-  course_accepted n i =
-      let found = in-map-inv accepted (effects v (ranges_of ls)) (subst (In (refused n)) (course_meanings course segmented) (in_map preview_meaning i)) in
+  course_accepted e i =
+      let found = in-map-inv accepted (effects v (ranges_of ls)) (subst (In (refused (refusal_number e))) (course_meanings course segmented) (in_map preview_meaning i)) in
       refused_not_accepted (sym found.2)
 
   pub course_begun : begun_in (effects_in answers) ≡ m

@@ -8,7 +8,8 @@
 --     full_refused           on lists of one length that are full, or longer, refused with 7, whatever the level, the direction, the step and the ranges are
 --
 -- Assumes nothing.
-use Rattle.std.specs.Prelude.{◌≡◌, ◌↔◌, ◌⊎◌, true, List, [], ◌∷◌, ◌++◌, ℕ, ◌≤◌, ◌<◌, length}
+use Rattle.definitions.specs.declared.refusals.Refusal.{Refusal}
+use Rattle.std.specs.Prelude.{◌≡◌, ◌↔◌, ◌⊎◌, true, List, [], ◌∷◌, ◌++◌, ℕ, ◌≤◌, ◌<◌, length, Result}
 use Rattle.std.proofs.Math.Path.{refl, ap, ap₂}
 use Rattle.std.proofs.Common.{◌∙◌}
 use Rattle.std.proofs.Math.Logic.{inl, inr}
@@ -33,7 +34,7 @@ use Rattle.trial_laws.specs.RangeLists.{SameLength, same_length}
 use Rattle.trial_laws.specs.ListTrial.{bad-refused}
 use Rattle.trial_laws.specs.Accepted.{GoodService, service-bad}
 use Rattle.trial_laws.specs.LongerLists.{longer_length, longer_differ, effect_on, preview_by_rows, preview_trial}
-use Rattle.preview.specs.declared.PreviewAnswer.{PreviewAnswer}
+use Rattle.preview.specs.declared.Effect.{Effect as EffectOfCode}
 use Rattle.preview.specs.PreviewPromise.{preview_meaning, PreviewPromise}
 
 abbrev pub PreviewNumber : ℕ → Type 0
@@ -46,7 +47,7 @@ ranges-numbers before (r ∷ rs) =
     let low : PreviewNumber 4 = (omega arith, inl (omega arith)) in
     (low, (low, ((omega arith, inl (omega arith)), ((omega arith, inl (omega arith)), ranges-numbers (at r.time) rs))))
 
-module _ {v : Service} {ls : Lists} {r : Range} {answer : PreviewAnswer} (promise : PreviewPromise v ls r answer) where
+module _ {v : Service} {ls : Lists} {r : Range} {answer : Result EffectOfCode Refusal} (promise : PreviewPromise v ls r answer) where
   pub preview-refused : (n : ℕ) → (preview_meaning answer ≡ refused n) ↔ FirstAt n (preview_rows v ls r)
   unfolding preview_call segment_call
   preview-refused = told_refused (preview_rows v ls r) (segments_of v (ranges_of (longer ls r))) (effect_of (length (segments (ranges_of ls)))) promise.answer_is

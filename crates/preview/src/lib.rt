@@ -9,59 +9,34 @@ ghost use Rattle.preview.specs.PreviewPromise.{PreviewPromise};
 ghost use Rattle.preview.specs.FoundEffects.{Unrefused, EffectGiven};
 
 use definitions::limits::MOST_RANGES;
-use fit::ends::Range;
+use definitions::refusals::Refusal;
+use fit::ends::{NO_END, Range};
 use fit::last_run::last_run;
 use joining::run_with;
 use values::reaching::outlook_of;
 use values::{Outlook, Service};
 
-// The range joins the last segment, or begins one, with the outlook of the last segment then; or the number of a refusal.
+// The range joins the last segment, or begins one; with the outlook of the last segment then.
 #[derive(Clone, Copy)]
-pub enum PreviewAnswer {
+pub enum Effect {
     Joins(Outlook),
     Begins(Outlook),
-    Refused(u8),
 }
 
 // The effect of a range that is not refused on lists that are not empty.
-fn effect(v: Service, times: &[u32], lows: &[i32], highs: &[i32], r: Range) -> PreviewAnswer
+fn find_effect(v: Service, times: &[u32], lows: &[i32], highs: &[i32], r: Range) -> Effect
     requires { Unrefused (service_of v) (record { times = times.now; lows = lows.now; highs = highs.now }) (range_of r) }
     ensures { EffectGiven (service_of v) (record { times = times.entry.now; lows = lows.now; highs = highs.now }) (range_of r) result }
 {
-    let mut up_times = [0u32; MOST_RANGES];
-    let mut up_values = [0i32; MOST_RANGES];
-    let mut down_times = [0u32; MOST_RANGES];
-    let mut down_values = [0i32; MOST_RANGES];
+    let mut up = [NO_END; MOST_RANGES];
+    let mut down = [NO_END; MOST_RANGES];
     let n = times.len();
-    let last = last_run(
-        times,
-        highs,
-        lows,
-        &mut up_times,
-        &mut up_values,
-        &mut down_times,
-        &mut down_values,
-        n,
-    );
-    let reach = run_with(
-        times,
-        highs,
-        lows,
-        &mut up_times,
-        &mut up_values,
-        &mut down_times,
-        &mut down_values,
-        last,
-        r,
-    );
-    if reach.end <= n {
-        return PreviewAnswer::Begins(Outlook::Open);
-    }
-    let polygon = reach.polygon;
-    let slow = polygon.slow;
-    let fast = polygon.fast;
-    let outlook = outlook_of(slow, fast, v, r.time);
-    PreviewAnswer::Joins(outlook)
+    let last = last_run(times, highs, lows, &mut up, &mut down, n);
+    let Some(polygon) = run_with(times, highs, lows, &mut up, &mut down, last, r) else {
+        return Effect::Begins(Outlook::Open);
+    };
+    let outlook = outlook_of(polygon.slow, polygon.fast, v, r.time);
+    Effect::Joins(outlook)
 }
 
 // The scope's Preview.
@@ -75,22 +50,15 @@ pub fn preview(
     time: u32,
     low: i32,
     high: i32,
-) -> PreviewAnswer
+) -> Result<Effect, Refusal>
     ensures { PreviewPromise (record { level = level; direction = direction; step = step }) (record { times = times.entry.now; lows = lows.now; highs = highs.now }) (record { time = time; low = low; high = high }) result }
 {
     let outside = trial::service_outside(level, direction, step);
-    let number = trial::try_longer(outside, times, lows, highs, time, low, high);
-    if number != 0 {
-        return PreviewAnswer::Refused(number);
-    }
+    trial::try_longer(outside, times, lows, highs, time, low, high)?;
     if times.len() == 0 {
-        return PreviewAnswer::Begins(Outlook::Open);
+        return Ok(Effect::Begins(Outlook::Open));
     }
-    let v = Service {
-        level,
-        direction,
-        step,
-    };
+    let v = Service::new(level, direction, step);
     let r = Range { time, low, high };
-    effect(v, times, lows, highs, r)
+    Ok(find_effect(v, times, lows, highs, r))
 }

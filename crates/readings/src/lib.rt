@@ -2,6 +2,6 @@
 // Nothing here asks anything of its caller.
 #![tactic(auto)]
 
-pub mod floats; // floats.rt: the float of 32 bits, and whether it is finite
+pub mod floats; // floats.rt: the float of four bytes
 pub mod conversion; // conversion.rt: a value and a reading in 256ths
 pub mod trials; // trials.rt: the reading in the body of a field, tried and taken

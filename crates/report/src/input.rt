@@ -1,49 +1,17 @@
 // Standard input, read to its end.
-ghost use Rattle.std.specs.Prelude.{◌≡◌, ◌≤◌, length};
-ghost use Rattle.report.specs.Inputs.{got_of, GotIn, InputIn};
+ghost use Rattle.std.specs.Prelude.{◌≡◌, ◌+◌, ◌<◌, ◌≤◌, IfOk, length};
+ghost use Rattle.std.specs.Io.KnownBytes.{IsAtEnd};
+ghost use Rattle.report.specs.Inputs.{InputIn};
 
-use std::io::{ErrorKind, Read, Result, Stdin};
+use std::io::{ErrorKind, Read, Result};
 
-// What one read gave: some bytes, and how many; the end of the input; or nothing, because a signal came or it failed.
-#[derive(Clone, Copy)]
-pub enum Got {
-    Bytes(usize),
-    End,
-    Interrupted,
-    Failed,
-}
-
-// What a read says that gave this answer. A read that fails is not the end.
-fn got_of(answer: Result<usize>) -> Got
-    ensures { result ≡ got_of answer }
+// One read, to the bytes of the buffer from `at` on. No byte is the end of the input, and nothing else is: a read that fails is not.
+fn read_at<R: Read>(input: &mut R, buffer: &mut [u8], at: usize) -> Result<usize>
+    requires { at < length buffer.old }
+    ensures inside { IfOk result (λ bytes. at + bytes ≤ length buffer.new) }
+    ensures end { IfOk result (λ bytes. bytes ≡ 0 → IsAtEnd (R.remaining input.new)) }
 {
-    match answer {
-        Ok(0) => Got::End,
-        Ok(bytes) => Got::Bytes(bytes),
-        Err(error) => {
-            if error.kind() == ErrorKind::Interrupted {
-                Got::Interrupted
-            } else {
-                Got::Failed
-            }
-        }
-    }
-}
-
-// One read, to the bytes of the buffer from `at` on.
-fn read_at(input: &mut Stdin, buffer: &mut [u8], at: usize) -> Got
-    requires { at ≤ length buffer.old }
-    ensures { GotIn at (length buffer.new) result }
-{
-    let answer = input.read(&mut buffer[at..]);
-    got_of(answer)
-}
-
-// All that was read, by its number of bytes, or that it could not be read.
-#[derive(Clone, Copy)]
-pub enum Input {
-    Whole(usize),
-    Failed,
+    input.read(&mut buffer[at..])
 }
 
 // How often an interrupted read is taken up again at most, as the program has to end.
@@ -51,24 +19,24 @@ const MOST_INTERRUPTIONS: usize = 4096;
 
 // Reads until the buffer is full or the input ends. Where a read fails before that, nobody knows where the input would
 // have ended, so what came of it until then is not taken for the whole.
-pub fn read_input(input: &mut Stdin, buffer: &mut [u8]) -> Input
-    ensures { InputIn (length buffer.new) result }
+pub fn read_input<R: Read>(input: &mut R, buffer: &mut [u8]) -> Result<usize>
+    ensures inside { InputIn (length buffer.new) result }
+    ensures whole { IfOk result (λ size. size < length buffer.new → IsAtEnd (R.remaining input.new)) }
 {
     let mut size = 0;
     let mut interruptions = 0;
+    // the buffer, the input or the interruptions end it, so no count tells how many turns there are
     while size < buffer.len() {
-        let got = read_at(input, buffer, size);
-        match got {
-            Got::Bytes(more) => size += more,
-            Got::End => return Input::Whole(size),
-            Got::Interrupted => {
-                if interruptions == MOST_INTERRUPTIONS {
-                    return Input::Failed;
+        match read_at(input, buffer, size) {
+            Ok(0) => return Ok(size),
+            Ok(more) => size += more,
+            Err(error) => {
+                if error.kind() != ErrorKind::Interrupted || interruptions == MOST_INTERRUPTIONS {
+                    return Err(error);
                 }
                 interruptions += 1;
             }
-            Got::Failed => return Input::Failed,
         }
     }
-    Input::Whole(size)
+    Ok(size)
 }

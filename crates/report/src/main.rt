@@ -5,8 +5,8 @@ ghost use Rattle.std.specs.Prelude.{◌≡◌, length};
 
 mod input; // input.rt: standard input, read to its end
 
-use input::{Input, read_input};
-use report_text::{REPORT_ROOM, ReportAnswer, report};
+use input::read_input;
+use report_text::{REPORT_ROOM, report};
 
 // The most bytes of standard input that are read: more than any trace file has.
 const MOST_READ: usize = 65536;
@@ -23,26 +23,21 @@ fn print_report(rt: &HostRuntime, file: &[u8]) {
     let mut text = empty_text();
     let answer = report(file, &mut text);
     // The text is long enough, so there is a report, and this never returns here.
-    let ReportAnswer::Accepted(count) = answer else {
+    let Ok(count) = answer else {
         return;
     };
     if rt.stdout().write_all(&text[..count]).is_err() {
-        let _ = rt
-            .stderr()
-            .write_all(b"report: standard output takes no more\n");
+        let _ = eprintln!(rt; "report: standard output takes no more");
     }
 }
 
 // A file that could not be read whole has no report: nothing is printed on standard output.
 fn main(rt: HostRuntime) {
     let mut file = [0u8; MOST_READ];
-    let input = read_input(&mut rt.stdin(), &mut file);
-    match input {
-        Input::Whole(size) => print_report(&rt, &file[..size]),
-        Input::Failed => {
-            let _ = rt
-                .stderr()
-                .write_all(b"report: standard input cannot be read\n");
+    match read_input(&mut rt.stdin(), &mut file) {
+        Ok(size) => print_report(&rt, &file[..size]),
+        Err(_) => {
+            let _ = eprintln!(rt; "report: standard input cannot be read");
         }
     }
 }

@@ -4,17 +4,17 @@
 --     report_accepted        accepted, with the number of the report's bytes, exactly if the text is long enough
 --
 -- Assumes nothing.
-use Rattle.std.specs.Prelude.{◌≡◌, ◌↔◌, List, [], ◌∷◌, ℕ}
+use Rattle.definitions.specs.declared.refusals.Refusal.{Refusal}
+use Rattle.std.specs.Prelude.{◌≡◌, ◌↔◌, List, [], ◌∷◌, ℕ, Result}
 use Rattle.std.proofs.Math.ListN.{length}
 use Rattle.definitions.specs.Answers.{Row, ◌if◌, refused, accepted}
 use Rattle.definitions.specs.Trial.{too_short}
 use Rattle.definitions.specs.Report.{report, report_room, report_call}
 use Rattle.trial_laws.specs.Rows.{NoneHolds, FirstAt}
 use Rattle.trial_laws.specs.CallLaws.{told_refused, told_accepted}
-use Rattle.report_text.specs.declared.ReportAnswer.{ReportAnswer}
 use Rattle.report_text.specs.ReportPromise.{report_meaning, ReportPromise}
 
-module _ {file text₀ text : List ℕ} {r : ReportAnswer} (promise : ReportPromise file text₀ text r) where
+module _ {file text₀ text : List ℕ} {r : Result ℕ Refusal} (promise : ReportPromise file text₀ text r) where
   abbrev rows : List Row
   rows = 8 if too_short report_room (length text₀ ∷ []) ∷ []
 

@@ -5,16 +5,15 @@
 --                            where it is too short
 --
 -- Assumes nothing.
-use Rattle.std.specs.Prelude.{ℕ, ◌≡◌, List, [], ◌∷◌, length}
-use Rattle.definitions.specs.Answers.{Answer, refused, accepted, ◌>>=◌, filled}
+use Rattle.definitions.specs.declared.refusals.Refusal.{Refusal}
+use Rattle.std.specs.Prelude.{ℕ, ◌≡◌, List, [], ◌∷◌, length, Result}
+use Rattle.definitions.specs.Refusals.{answered}
+use Rattle.definitions.specs.Answers.{Answer, accepted, ◌>>=◌, filled}
 use Rattle.definitions.specs.Report.{report_call}
-use Rattle.report_text.specs.declared.ReportAnswer.{ReportAnswer}
-use Rattle.report_text.specs.declared.ReportAnswer.TheVariants.{Accepted, Refused}
 
-unfoldable pub report_meaning : ReportAnswer → Answer ℕ
-report_meaning (Accepted count) = accepted count
-report_meaning (Refused n) = refused n
+unfoldable pub report_meaning : Result ℕ Refusal → Answer ℕ
+report_meaning = answered
 
-pub record ReportPromise (file text₀ text : List ℕ) (r : ReportAnswer) : Type 0 where
+pub record ReportPromise (file text₀ text : List ℕ) (r : Result ℕ Refusal) : Type 0 where
   pub answer_is : report_meaning r ≡ (report_call (length text₀ ∷ []) file >>= λ bytes. accepted (length bytes))
   pub text_is : text ≡ filled (report_call (length text₀ ∷ []) file) (λ bytes. bytes) text₀

@@ -9,7 +9,7 @@
 --     zero_room              the slices that the report lends to Read are long enough
 --
 -- Assumes nothing.
-use Rattle.std.specs.Prelude.{ℕ, ◌+◌, ◌≤◌, ◌<◌, ◌≡◌, false, List, [], ◌∷◌, ◌++◌, ℤ, pos, replicate}
+use Rattle.std.specs.Prelude.{ℕ, ◌+◌, ◌≤◌, ◌<◌, ◌≡◌, false, List, [], ◌∷◌, ◌++◌, ℤ, pos, replicate, Err, Ok, Result}
 use Rattle.std.proofs.Math.Path.{refl, sym, ap}
 use Rattle.std.proofs.Common.{◌∙◌, subst, lt-ltb, le-ltb, to_z-of_z}
 use native.Mathlib.Omega.{arith}
@@ -19,6 +19,9 @@ use mir.Syntax.{w32}
 use mir.Val.{to_z, of_z}
 use Rattle.integers.specs.Lists.{any}
 use Rattle.definitions.specs.Spans.{most_ranges, read_room}
+use Rattle.definitions.specs.Refusals.{refusal_number}
+use Rattle.definitions.specs.declared.refusals.Refusal.{Refusal}
+use Rattle.definitions.specs.declared.refusals.Refusal.TheVariants.{SliceTooShort}
 use Rattle.definitions.specs.Answers.{Answer, refused, accepted, ◌>>=◌, firstRow, filled}
 use Rattle.definitions.specs.Trial.{too_short}
 use Rattle.definitions.specs.TraceFile.{Trace, read_file}
@@ -28,12 +31,9 @@ use Rattle.fields.specs.SpliceLaws.{splice-fits}
 use Rattle.trial_laws.specs.CallLaws.{bind-accepted, bind-refused, accepted-is}
 use Rattle.trial_laws.specs.RangeLists.{lists_of}
 use Rattle.trace.specs.declared.TraceRecord.{TraceRecord}
-use Rattle.trace.specs.declared.ReadAnswer as R
-use Rattle.trace.specs.declared.ReadAnswer.TheVariants as ReadCase
 use Rattle.trace.specs.Promises.{read_meaning, record_of, read_into, ReadPromise}
 use Rattle.trace.specs.BothWays.{fill-long, first_of, lists_read, FirstIn, read_in}
 use Rattle.text.specs.Put.{Put}
-use Rattle.report_text.specs.declared.ReportAnswer.TheVariants.{Accepted, Refused}
 use Rattle.report_text.specs.Lines.{lists_text}
 use Rattle.report_text.specs.ReadTraces.{report_of_lists, level-fits}
 use Rattle.report_text.specs.ReportPromise.{report_meaning, ReportPromise}
@@ -49,13 +49,13 @@ module _ (file text₀ : List ℕ) where
   unfolding report_call too_short any firstRow ◌>>=◌
   long-enough h = rw (le-ltb (length text₀) report_room h) refl
 
-  pub promise_short : length text₀ < report_room → ReportPromise file text₀ text₀ (Refused 8)
+  pub promise_short : length text₀ < report_room → ReportPromise file text₀ text₀ (Err SliceTooShort)
   unfolding report_meaning ◌>>=◌ filled
   promise_short h =
       let refuses = sym (too_short_lem h) in
       record { answer_is = ap (λ a. a >>= λ bytes. accepted (length bytes)) refuses; text_is = ap (λ a. filled a (λ bytes. bytes) text₀) refuses }
 
-  pub promise_put : (text : List ℕ) (r : ℕ) → report_room ≤ length text₀ → Put 0 (report file) text₀ r text → ReportPromise file text₀ text (Accepted r)
+  pub promise_put : (text : List ℕ) (r : ℕ) → report_room ≤ length text₀ → Put 0 (report file) text₀ r text → ReportPromise file text₀ text (Ok r)
   unfolding report_meaning ◌>>=◌ filled
   promise_put text r h put =
       let accepts = sym (long-enough h) in
@@ -71,7 +71,7 @@ module _ (file text₀ : List ℕ) where
 
 -- ---- what Read gave, into slices that are long enough
 
-module _ {file times₀ times : List ℕ} {lows₀ lows highs₀ highs : List ℤ} {r : R.ReadAnswer} (promise : ReadPromise file times₀ lows₀ highs₀ times lows highs r)
+module _ {file times₀ times : List ℕ} {lows₀ lows highs₀ highs : List ℤ} {r : Result TraceRecord Refusal} (promise : ReadPromise file times₀ lows₀ highs₀ times lows highs r)
     (room : too_short read_room (length times₀ ∷ length lows₀ ∷ length highs₀ ∷ []) ≡ false) where
   abbrev answer : Answer Trace
   answer = read_into times₀ lows₀ highs₀ file
@@ -80,9 +80,9 @@ module _ {file times₀ times : List ℕ} {lows₀ lows highs₀ highs : List �
   unfolding read_call firstRow ◌>>=◌
   answer_is = rw room refl
 
-  pub file_refused : {n : ℕ} → r ≡ ReadCase.Refused n → read_file file ≡ refused n
+  pub file_refused : {e : Refusal} → r ≡ Err e → read_file file ≡ refused (refusal_number e)
   unfolding read_meaning
-  file_refused {n} e = sym answer_is ∙ bind-refused answer record_of n (sym promise.answer_is ∙ ap read_meaning e)
+  file_refused {e} is = sym answer_is ∙ bind-refused answer record_of (refusal_number e) (sym promise.answer_is ∙ ap read_meaning is)
 
   pub record TraceRead (known : TraceRecord) : Type 0 where
     pub trace : Trace
@@ -91,7 +91,7 @@ module _ {file times₀ times : List ℕ} {lows₀ lows highs₀ highs : List �
     pub lists_are : first_of known.ranges times lows highs ≡ lists_of trace.ranges
     pub inside : FirstIn known.ranges times lows highs
 
-  pub trace_read : {known : TraceRecord} → r ≡ ReadCase.Accepted known → TraceRead known
+  pub trace_read : {known : TraceRecord} → r ≡ Ok known → TraceRead known
   unfolding read_meaning record_of
   trace_read {known} e =
       let (t, a, f) = bind-accepted answer (λ t. accepted (record_of t)) known (sym promise.answer_is ∙ ap read_meaning e) in
@@ -128,7 +128,7 @@ zero_room =
 -- ---- what a caller may rely on
 
 -- the report lies in the text
-pub report-inside : {file text₀ text : List ℕ} {n : ℕ} → ReportPromise file text₀ text (Accepted n) → n ≤ length text
+pub report-inside : {file text₀ text : List ℕ} {n : ℕ} → ReportPromise file text₀ text (Ok n) → n ≤ length text
 unfolding report_meaning
 report-inside {file} {text₀} {text} {n} promise =
     let call = report_call (length text₀ ∷ []) file in

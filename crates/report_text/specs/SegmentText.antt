@@ -5,8 +5,10 @@
 --     text_accepted, text-refused   the report of lists, where Segment accepted them and where it did not
 --
 -- Assumes nothing.
+use Rattle.definitions.specs.Refusals.{refusal_number}
+use Rattle.definitions.specs.declared.refusals.Refusal.{Refusal}
 use Prim.Native.Nat.{ℕ, zero, suc, ◌+◌, ◌≤◌}
-use Rattle.std.specs.Prelude.{◌≡◌, List, [], ◌∷◌, ◌++◌, take, replicate}
+use Rattle.std.specs.Prelude.{◌≡◌, List, [], ◌∷◌, ◌++◌, take, replicate, Err, Ok}
 use Rattle.std.proofs.Math.Path.{refl, sym, ap, ap₂}
 use Rattle.std.proofs.Common.{◌∙◌, append-nil, append_assoc, arith, take-suc, take_all}
 use Rattle.std.proofs.Math.ListN.{length, get_or, length-map}
@@ -23,7 +25,6 @@ use Rattle.trial_laws.specs.RangeLists.{ranges_length}
 use Rattle.lines.specs.Theorems.{segments_room}
 use Rattle.values.specs.Rows.{segment_from}
 use Rattle.values.specs.RowLaws.{rows_back}
-use Rattle.drift.specs.declared.SegmentAnswer.TheVariants.{Accepted, Refused}
 use Rattle.drift.specs.Columns.{Columns, row_at, lengths}
 use Rattle.drift.specs.SegmentPromise.{segment_meaning, SegmentPromise}
 use Rattle.drift.specs.GivenColumns.{taken_good, called, taken, taken_few, ordered, count-is, row-at}
@@ -41,7 +42,7 @@ lines_snoc place (t ∷ ss) s =
 
 -- ---- where Segment accepted
 
-module _ {v : Service} {ls : Lists} {old new : Columns} {n : ℕ} (promise : SegmentPromise v ls old new (Accepted n)) where
+module _ {v : Service} {ls : Lists} {old new : Columns} {n : ℕ} (promise : SegmentPromise v ls old new (Ok n)) where
   abbrev rs : List Range
   rs = ranges_of ls
 
@@ -76,9 +77,9 @@ module _ {v : Service} {ls : Lists} {old new : Columns} {n : ℕ} (promise : Seg
       ∙ ap (answer_text address v.level (length ls.times)) (called promise)
       ∙ ap₂ (λ m l. trace_line address v.level (length ls.times) m ++ l) (sym (count-is promise)) (sym lines_given)
 
-pub text-refused : {v : Service} {ls : Lists} {old new : Columns} {e : ℕ} → SegmentPromise v ls old new (Refused e) → (address : ℕ) → lengths old ≡ replicate row_length segment_room
-    → lists_text address v ls ≡ refused_line e
+pub text-refused : {v : Service} {ls : Lists} {old new : Columns} {e : Refusal} → SegmentPromise v ls old new (Err e) → (address : ℕ) → lengths old ≡ replicate row_length segment_room
+    → lists_text address v ls ≡ refused_line (refusal_number e)
 unfolding lists_text answer_text segment_meaning
 text-refused {v} {ls} {old} {new} {e} promise address room =
-    let refuses = bind-refused (segment_call (lengths old) v ls) length e (sym promise.answer_is) in
+    let refuses = bind-refused (segment_call (lengths old) v ls) length (refusal_number e) (sym promise.answer_is) in
     ap (λ r. answer_text address v.level (length ls.times) (segment_call r v ls)) (sym room) ∙ ap (answer_text address v.level (length ls.times)) refuses

@@ -7,36 +7,30 @@ mod trace_text; // trace_text.rt: the report of a trace that was read
 ghost use Rattle.report_text.specs.ReportPromise.{ReportPromise};
 
 use definitions::limits::MOST_RANGES;
+use definitions::refusals::Refusal;
 use report_lines::put_refused;
-use trace::{ReadAnswer, read};
+use trace::read;
 use trace_text::put_trace;
 
 // The least length of the slice for a report: 256 bytes for the trace's line and for each of 2,048 segments.
 pub const REPORT_ROOM: usize = 524544;
 
-// The number of the report's bytes, or the number of a refusal. A file that is turned down has a report too.
-#[derive(Clone, Copy)]
-pub enum ReportAnswer {
-    Accepted(usize),
-    Refused(u8),
-}
-
-// The scope's report of a file.
-pub fn report(file: &[u8], text: &mut [u8]) -> ReportAnswer
+// The scope's report of a file, and the number of its bytes. A file that is turned down has a report too.
+pub fn report(file: &[u8], text: &mut [u8]) -> Result<usize, Refusal>
     ensures { ReportPromise file.now text.old text.new result }
 {
     if text.len() < REPORT_ROOM {
-        return ReportAnswer::Refused(8);
+        return Err(Refusal::SliceTooShort);
     }
     let mut times = [0u32; MOST_RANGES];
     let mut lows = [0i32; MOST_RANGES];
     let mut highs = [0i32; MOST_RANGES];
     let answer = read(file, &mut times, &mut lows, &mut highs);
     match answer {
-        ReadAnswer::Refused(number) => ReportAnswer::Accepted(put_refused(text, 0, number)),
-        ReadAnswer::Accepted(known) => {
+        Err(refusal) => Ok(put_refused(text, 0, u8::from(refusal))),
+        Ok(known) => {
             let n = known.ranges;
-            ReportAnswer::Accepted(put_trace(
+            Ok(put_trace(
                 text,
                 known.address,
                 known.level,

@@ -5,15 +5,15 @@ ghost use Rattle.text.specs.Put.{Put};
 ghost use Rattle.values.specs.Meanings.{line_of, time_of, outlook_of, segment_of};
 ghost use Rattle.report_text.specs.Lines.{line_bytes};
 
-use text::{put_count, put_number, put_value, put_word};
-use values::{Line, Outlook, Segment, Time};
+use text::{Decimal, put_labelled, put_word};
+use values::{Line, Outlook, Segment};
 
 // The one line of a file that is turned down.
 pub fn put_refused(text: &mut [u8], at: usize, number: u8) -> usize
     requires { at + 256 ≤ length text.old }
     ensures { Put at (refused_line number) text.old result text.new }
 {
-    let next = put_count(text, at, b"refused ", number as u64);
+    let next = put_labelled(text, at, b"refused ", number as u64);
     put_word(text, next, b"\n")
 }
 
@@ -29,10 +29,10 @@ pub fn put_heading(
     requires { at + 256 ≤ length text.old }
     ensures { (Put at (trace_line address level ranges segments) text.old result text.new) × (result ≤ at + 256) }
 {
-    let next = put_count(text, at, b"detector ", address as u64);
-    let next = put_value(text, next, b" level ", level as i64);
-    let next = put_count(text, next, b" ranges ", ranges as u64);
-    let next = put_count(text, next, b" segments ", segments as u64);
+    let next = put_labelled(text, at, b"detector ", address as u64);
+    let next = put_labelled(text, next, b" level ", level as i64);
+    let next = put_labelled(text, next, b" ranges ", ranges as u64);
+    let next = put_labelled(text, next, b" segments ", segments as u64);
     put_word(text, next, b"\n")
 }
 
@@ -41,20 +41,20 @@ fn put_line(text: &mut [u8], at: usize, word: &[u8], l: Line) -> usize
     requires { (length word.now ≤ 6) × (at + 68 ≤ length text.old) }
     ensures { (Put at (line_bytes word.now (line_of l)) text.old result text.new) × (result ≤ at + 68) }
 {
-    let next = put_value(text, at, word, l.p);
-    let next = put_value(text, next, b" ", l.q);
-    put_value(text, next, b" ", l.d)
+    let next = put_labelled(text, at, word, l.p);
+    let next = put_labelled(text, next, b" ", l.q);
+    put_labelled(text, next, b" ", l.d)
 }
 
 // A word and a time, of at most 10 bytes.
-fn put_time(text: &mut [u8], at: usize, word: &[u8], time: Time) -> usize
+fn put_time(text: &mut [u8], at: usize, word: &[u8], time: Option<u32>) -> usize
     requires { (length word.now ≤ 6) × (at + 16 ≤ length text.old) }
     ensures { (Put at (word.now ++ time_text (time_of time)) text.old result text.new) × (result ≤ at + 16) }
 {
     let next = put_word(text, at, word);
     match time {
-        Time::Never => put_word(text, next, b"none"),
-        Time::At(t) => put_number(text, next, t as u64),
+        None => put_word(text, next, b"none"),
+        Some(t) => u64::from(t).put(text, next),
     }
 }
 
@@ -84,10 +84,10 @@ fn put_span(text: &mut [u8], at: usize, place: u32, first: u32, last: u32, count
     requires { at + 66 ≤ length text.old }
     ensures { (Put at (span_text place first last count) text.old result text.new) × (result ≤ at + 66) }
 {
-    let next = put_count(text, at, b"segment ", place as u64);
-    let next = put_count(text, next, b" from ", first as u64);
-    let next = put_count(text, next, b" to ", last as u64);
-    put_count(text, next, b" ranges ", count as u64)
+    let next = put_labelled(text, at, b"segment ", place as u64);
+    let next = put_labelled(text, next, b" from ", first as u64);
+    let next = put_labelled(text, next, b" to ", last as u64);
+    put_labelled(text, next, b" ranges ", count as u64)
 }
 
 // The line of a segment.

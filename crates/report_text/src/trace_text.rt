@@ -9,9 +9,9 @@ ghost use Rattle.report_text.specs.Lines.{lines_from, RowsReady, lists_text};
 
 use crate::report_lines::{put_heading, put_refused, put_segment};
 use definitions::limits::SEGMENT_ROOM;
-use drift::{SegmentAnswer, segment};
-use values::Line;
-use values::rows::{Row, segment_of};
+use drift::segment;
+use values::rows::{OutlookRow, Row};
+use values::{Line, Segment};
 
 // The row at a place of the slices that Segment filled.
 fn row_at(
@@ -45,10 +45,12 @@ fn row_at(
         first_time: first_times[j],
         last_time: last_times[j],
         count: counts[j],
-        slow,
-        fast,
-        some: somes[j],
-        all: alls[j],
+        outlook: OutlookRow {
+            slow,
+            fast,
+            some: somes[j],
+            all: alls[j],
+        },
     }
 }
 
@@ -73,8 +75,7 @@ fn put_segments(
     ensures { Put from (lines_from (columns first_times.now last_times.now counts.now slow_ps.now slow_qs.now slow_ds.now fast_ps.now fast_qs.now fast_ds.now somes.now alls.now) rows) text.old result text.new }
 {
     let mut at = from;
-    let mut j = 0;
-    while j < rows {
+    for j in 0..rows {
         let row = row_at(
             first_times,
             last_times,
@@ -89,9 +90,7 @@ fn put_segments(
             alls,
             j,
         );
-        let next = put_segment(text, at, j as u32 + 1, segment_of(row));
-        at = next;
-        j += 1;
+        at = put_segment(text, at, j as u32 + 1, Segment::from(row));
     }
     at
 }
@@ -141,8 +140,8 @@ pub fn put_trace(
         &mut alls,
     );
     match answer {
-        SegmentAnswer::Refused(number) => put_refused(text, 0, number),
-        SegmentAnswer::Accepted(rows) => {
+        Err(refusal) => put_refused(text, 0, u8::from(refusal)),
+        Ok(rows) => {
             let next = put_heading(text, 0, address, level, times.len(), rows);
             put_segments(
                 text,

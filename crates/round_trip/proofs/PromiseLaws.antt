@@ -3,39 +3,24 @@
 --     promise_read           by what is written of the lists read, if the file is of bytes
 --
 -- Assumes nothing.
-use Rattle.std.specs.Prelude.{◌≡◌, Bool, ℕ, ℤ, length, take, drop}
-use Rattle.std.proofs.Math.Path.{refl, sym, ap}
+use Rattle.std.specs.Prelude.{Result, Ok}
+use Rattle.definitions.specs.declared.refusals.Refusal.{Refusal}
+use Rattle.std.specs.Prelude.{◌≡◌, ℕ, ℤ, length}
+use Rattle.std.proofs.Math.Path.{sym, ap}
 use Rattle.std.proofs.Common.{◌∙◌}
-use Rattle.std.proofs.Math.Bool.{true, false, cond}
-use mathlib.Core.List.{List, [], ◌∷◌, ◌++◌, map}
-use Rattle.integers.specs.Lists.{any}
-use Rattle.definitions.specs.Spans.{read_room, write_room}
-use Rattle.definitions.specs.Ranges.{Lists}
-use Rattle.definitions.specs.Headers.{Header}
-use Rattle.definitions.specs.Answers.{Answer, refused, accepted, ◌>>=◌, firstRow, filled}
-use Rattle.definitions.specs.Trial.{too_short, list_rows, write_rows}
-use Rattle.definitions.specs.TraceFile.{Trace, write_file}
-use Rattle.definitions.specs.Calls.{read_call, write_call}
-use Rattle.trial_laws.specs.RangeLists.{lists_of}
-use Rattle.trial_laws.specs.Rows.{refused_not_accepted}
-use Rattle.trial_laws.specs.CallLaws.{then-then, bind-refused, accepted-is}
-use Rattle.trace_laws.specs.Numbers.{Bytes, Words}
-use Rattle.trace_laws.specs.RoundTrip.{trace_of}
-use Rattle.trace_laws.specs.FileRows.{reading_file}
+use mathlib.Core.List.{List, [], ◌∷◌}
+use Rattle.definitions.specs.Spans.{write_room}
+use Rattle.definitions.specs.Answers.{accepted, ◌>>=◌, filled}
+use Rattle.trace_laws.specs.Numbers.{Bytes}
 use Rattle.trace_laws.proofs.TraceLaws as Laws
-use Rattle.trace_laws.specs.TraceLaws.{lists_back as given_lists_back}
 use Rattle.trace.specs.declared.TraceRecord.{TraceRecord}
-use Rattle.trace.specs.declared.ReadAnswer as R
-use Rattle.trace.specs.declared.ReadAnswer.TheVariants as ReadCase
-use Rattle.trace.specs.declared.WriteAnswer as W
-use Rattle.trace.specs.declared.WriteAnswer.TheVariants as WriteCase
-use Rattle.trace.specs.Promises.{read_meaning, write_meaning, record_of, head_of, read_into, write_into, ReadPromise, WritePromise}
-use Rattle.trace.specs.BothWays.{first_of, bytes_written, trace_read, read_back, write_back}
-use Rattle.round_trip.specs.Promises.{long_enough, lists_back, rewritten, bytes_back, WriteReadPromise, ReadWritePromise}
+use Rattle.trace.specs.Promises.{head_of, read_into, write_into, ReadPromise, WritePromise}
+use Rattle.trace.specs.BothWays.{first_of, trace_read, write_back}
+use Rattle.round_trip.specs.Promises.{long_enough, rewritten, bytes_back, ReadWritePromise}
 use Rattle.round_trip.specs.PromiseLaws.{by-room, rewritten_is, slices, write-short}
 
-module _ {bs times₀ times : List ℕ} {lows₀ lows highs₀ highs : List ℤ} {known : TraceRecord} (read : ReadPromise bs times₀ lows₀ highs₀ times lows highs (ReadCase.Accepted known)) (bytes : Bytes bs)
-    {copy₀ copy : List ℕ} {w : W.WriteAnswer} (written : WritePromise (head_of known) (first_of known.ranges times lows highs) copy₀ copy w) where
+module _ {bs times₀ times : List ℕ} {lows₀ lows highs₀ highs : List ℤ} {known : TraceRecord} (read : ReadPromise bs times₀ lows₀ highs₀ times lows highs (Ok known)) (bytes : Bytes bs)
+    {copy₀ copy : List ℕ} {w : Result ℕ Refusal} (written : WritePromise (head_of known) (first_of known.ranges times lows highs) copy₀ copy w) where
   write_is : write_into copy₀ (head_of known) (first_of known.ranges times lows highs) ≡ bytes_back bs times₀ lows₀ highs₀ copy₀
   unfolding ◌>>=◌
   write_is =

@@ -9,6 +9,9 @@
 --     given_bytes_refused    of what Read refuses nothing is written: its number, and every slice as it was
 --
 -- Assumes nothing.
+use Rattle.std.specs.Prelude.{Result}
+use Rattle.definitions.specs.declared.refusals.Refusal.{Refusal}
+use Rattle.trace.specs.declared.TraceRecord.{TraceRecord}
 use Rattle.std.specs.Prelude.{◌≡◌, refl, ◌↔◌, Bool, true, false, cond, List, [], ◌∷◌, ℕ, ℤ}
 use Rattle.std.proofs.Common.{sym, ◌∙◌, subst}
 use Rattle.std.proofs.Math.Path.{ap}
@@ -24,8 +27,6 @@ use Rattle.trace_laws.specs.FileRows.{reading_file}
 use Rattle.trace_laws.proofs.ReadWrite.{written_no_readings}
 use Rattle.trace_laws.specs.RoundTrip.{trace_of, written}
 use Rattle.trace_laws.specs.TraceLaws.{read-tried}
-use Rattle.trace.specs.declared.ReadAnswer as R
-use Rattle.trace.specs.declared.WriteAnswer as W
 use Rattle.trace.specs.Promises.{read_meaning, write_meaning, record_of, read_into, write_into}
 use Rattle.trace.specs.BothWays.{fill-front, first_of}
 use Rattle.round_trip.specs.Promises.{long_enough, lists_back, rewritten, bytes_back, WriteReadPromise, ReadWritePromise}
@@ -34,7 +35,7 @@ long-enough : (least : ℕ) (lengths : List ℕ) → too_short least lengths ≡
 unfolding firstRow
 long-enough least lengths room = rw room refl
 
-module _ {h : Header} {lists : Lists} {file₀ times₀ : List ℕ} {lows₀ highs₀ : List ℤ} {file times : List ℕ} {lows highs : List ℤ} {r : R.ReadAnswer}
+module _ {h : Header} {lists : Lists} {file₀ times₀ : List ℕ} {lows₀ highs₀ : List ℤ} {file times : List ℕ} {lows highs : List ℤ} {r : Result TraceRecord Refusal}
     (promise : WriteReadPromise h lists file₀ times₀ lows₀ highs₀ file times lows highs r) where
   abbrev given_lists_back : Answer Lists
   given_lists_back = lists_back h lists file₀ times₀ lows₀ highs₀
@@ -69,7 +70,7 @@ module _ {h : Header} {lists : Lists} {file₀ times₀ : List ℕ} {lows₀ hig
     rw e at promise.highs_are,
   )
 
-module _ {file times₀ : List ℕ} {lows₀ highs₀ : List ℤ} {copy₀ times : List ℕ} {lows highs : List ℤ} {copy : List ℕ} {w : W.WriteAnswer}
+module _ {file times₀ : List ℕ} {lows₀ highs₀ : List ℤ} {copy₀ times : List ℕ} {lows highs : List ℤ} {copy : List ℕ} {w : Result ℕ Refusal}
     (promise : ReadWritePromise file times₀ lows₀ highs₀ copy₀ times lows highs copy w) where
   module _ (t : Trace) (e : read_into times₀ lows₀ highs₀ file ≡ accepted t) (room : too_short write_room (length copy₀ ∷ []) ≡ false) where
     bytes_accepted : bytes_back file times₀ lows₀ highs₀ copy₀ ≡ accepted (rewritten file t)

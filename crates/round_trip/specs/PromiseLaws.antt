@@ -6,6 +6,9 @@
 --
 -- Further laws stand in proofs/PromiseLaws.antt.
 -- Assumes nothing.
+use Rattle.std.specs.Prelude.{Result, Ok, Err}
+use Rattle.definitions.specs.Refusals.{refusal_number}
+use Rattle.definitions.specs.declared.refusals.Refusal.{Refusal}
 use Rattle.std.specs.Prelude.{◌≡◌, Bool, ℕ, ℤ, length, take, drop}
 use Rattle.std.proofs.Math.Path.{refl, sym, ap}
 use Rattle.std.proofs.Common.{◌∙◌}
@@ -28,13 +31,9 @@ use Rattle.trace_laws.specs.FileRows.{reading_file}
 use Rattle.trace_laws.proofs.TraceLaws as Laws
 use Rattle.trace_laws.specs.TraceLaws.{lists_back as given_lists_back}
 use Rattle.trace.specs.declared.TraceRecord.{TraceRecord}
-use Rattle.trace.specs.declared.ReadAnswer as R
-use Rattle.trace.specs.declared.ReadAnswer.TheVariants as ReadCase
-use Rattle.trace.specs.declared.WriteAnswer as W
-use Rattle.trace.specs.declared.WriteAnswer.TheVariants as WriteCase
 use Rattle.trace.specs.Promises.{read_meaning, write_meaning, record_of, head_of, read_into, write_into, ReadPromise, WritePromise}
-use Rattle.trace.specs.BothWays.{first_of, bytes_written, trace_read, read_back, write_back}
-use Rattle.round_trip.specs.Promises.{long_enough, lists_back, rewritten, bytes_back, WriteReadPromise, ReadWritePromise}
+use Rattle.trace.specs.BothWays.{first_of, bytes_written, read_back}
+use Rattle.round_trip.specs.Promises.{long_enough, lists_back, rewritten, WriteReadPromise, ReadWritePromise}
 
 -- a call that tries its slices before all else
 pub by-room : {A : Type 0} (least : ℕ) (lengths : List ℕ) (call : Answer A) (a : A) → (too_short least lengths ≡ true → call ≡ refused 8) → (too_short least lengths ≡ false → call ≡ accepted a)
@@ -56,11 +55,11 @@ write-short lengths h lists e = rw e refl
 
 -- ---- Write, then Read
 
-pub promise-not_written : {h : Header} {lists : Lists} {file₀ file : List ℕ} {n : ℕ} (times₀ : List ℕ) (lows₀ highs₀ : List ℤ) → WritePromise h lists file₀ file (WriteCase.Refused n)
-    → WriteReadPromise h lists file₀ times₀ lows₀ highs₀ file times₀ lows₀ highs₀ (ReadCase.Refused n)
+pub promise-not_written : {h : Header} {lists : Lists} {file₀ file : List ℕ} {refusal : Refusal} (times₀ : List ℕ) (lows₀ highs₀ : List ℤ) → WritePromise h lists file₀ file (Err refusal)
+    → WriteReadPromise h lists file₀ times₀ lows₀ highs₀ file times₀ lows₀ highs₀ (Err refusal)
 unfolding write_meaning read_meaning ◌>>=◌ filled
-promise-not_written {h} {lists} {file₀} {file} {n} times₀ lows₀ highs₀ written =
-    let is = bind-refused (write_into file₀ h lists) length n (sym written.answer_is) in
+promise-not_written {h} {lists} {file₀} {file} {refusal} times₀ lows₀ highs₀ written =
+    let is = bind-refused (write_into file₀ h lists) length (refusal_number refusal) (sym written.answer_is) in
     record { answer_is = rw is refl; file_is = written.file_is; times_are = rw is refl; lows_are = rw is refl; highs_are = rw is refl }
 
 -- two answers to one trial fill a slice alike, if their entries are the same
@@ -69,8 +68,8 @@ unfolding ◌>>=◌ filled
 filled-same (refused n) a b f g old e = refl
 filled-same (accepted ok) a b f g old e = ap (λ new. new ++ drop (length new) old) e
 
-module _ {h : Header} {lists : Lists} {file₀ file : List ℕ} {n : ℕ} (written : WritePromise h lists file₀ file (WriteCase.Accepted n)) (words : Words lists.times)
-    {times₀ times : List ℕ} {lows₀ lows highs₀ highs : List ℤ} {r : R.ReadAnswer} (read : ReadPromise (take n file) times₀ lows₀ highs₀ times lows highs r) where
+module _ {h : Header} {lists : Lists} {file₀ file : List ℕ} {n : ℕ} (written : WritePromise h lists file₀ file (Ok n)) (words : Words lists.times)
+    {times₀ times : List ℕ} {lows₀ lows highs₀ highs : List ℤ} {r : Result TraceRecord Refusal} (read : ReadPromise (take n file) times₀ lows₀ highs₀ times lows highs r) where
   abbrev room : Answer Unit
   room = long_enough read_room (length times₀ ∷ length lows₀ ∷ length highs₀ ∷ [])
 
@@ -111,15 +110,15 @@ module _ {h : Header} {lists : Lists} {file₀ file : List ℕ} {n : ℕ} (writt
 
 -- ---- Read, then Write
 
-pub promise-not_read : {bs times₀ times : List ℕ} {lows₀ lows highs₀ highs : List ℤ} {n : ℕ} (copy₀ : List ℕ) → ReadPromise bs times₀ lows₀ highs₀ times lows highs (ReadCase.Refused n)
-    → ReadWritePromise bs times₀ lows₀ highs₀ copy₀ times lows highs copy₀ (WriteCase.Refused n)
+pub promise-not_read : {bs times₀ times : List ℕ} {lows₀ lows highs₀ highs : List ℤ} {refusal : Refusal} (copy₀ : List ℕ) → ReadPromise bs times₀ lows₀ highs₀ times lows highs (Err refusal)
+    → ReadWritePromise bs times₀ lows₀ highs₀ copy₀ times lows highs copy₀ (Err refusal)
 unfolding write_meaning read_meaning ◌>>=◌ filled
-promise-not_read {bs} {times₀} {lows₀ = lows₀} {highs₀ = highs₀} {n = n} copy₀ read =
-    let is = bind-refused (read_into times₀ lows₀ highs₀ bs) record_of n (sym read.answer_is) in
+promise-not_read {bs} {times₀} {lows₀ = lows₀} {highs₀ = highs₀} {refusal = refusal} copy₀ read =
+    let is = bind-refused (read_into times₀ lows₀ highs₀ bs) record_of (refusal_number refusal) (sym read.answer_is) in
     record { answer_is = rw is refl; times_are = read.times_are; lows_are = read.lows_are; highs_are = read.highs_are; copy_is = rw is refl; same_trace = λ t e. refused_not_accepted (sym is ∙ e) }
 
-module _ {bs times₀ times : List ℕ} {lows₀ lows highs₀ highs : List ℤ} {known : TraceRecord} (read : ReadPromise bs times₀ lows₀ highs₀ times lows highs (ReadCase.Accepted known)) (bytes : Bytes bs)
-    {copy₀ copy : List ℕ} {w : W.WriteAnswer} (written : WritePromise (head_of known) (first_of known.ranges times lows highs) copy₀ copy w) where
+module _ {bs times₀ times : List ℕ} {lows₀ lows highs₀ highs : List ℤ} {known : TraceRecord} (read : ReadPromise bs times₀ lows₀ highs₀ times lows highs (Ok known)) (bytes : Bytes bs)
+    {copy₀ copy : List ℕ} {w : Result ℕ Refusal} (written : WritePromise (head_of known) (first_of known.ranges times lows highs) copy₀ copy w) where
   abbrev pub slices : List ℕ
   slices = length times₀ ∷ length lows₀ ∷ length highs₀ ∷ []
 

@@ -7,6 +7,9 @@
 --
 -- Neither promise has a hypothesis: that each time has 32 bits and each byte has 8 is known of the slices that are lent.
 -- Assumes nothing.
+use Rattle.std.specs.Prelude.{Result}
+use Rattle.definitions.specs.declared.refusals.Refusal.{Refusal}
+use Rattle.trace.specs.declared.TraceRecord.{TraceRecord}
 use Rattle.std.specs.Prelude.{◌≡◌, cond, List, [], ◌∷◌, map, ℕ, ℤ, length}
 use Rattle.definitions.specs.Spans.{read_room, write_room}
 use Rattle.definitions.specs.Ranges.{Lists}
@@ -17,8 +20,6 @@ use Rattle.definitions.specs.TraceFile.{Trace, write_file}
 use Rattle.trace_laws.specs.FileRows.{reading_file}
 use Rattle.trace_laws.specs.RoundTrip.{trace_of}
 use Rattle.trace.specs.Promises.{read_meaning, write_meaning, record_of, read_into, write_into}
-use Rattle.trace.specs.declared.ReadAnswer as R
-use Rattle.trace.specs.declared.WriteAnswer as W
 
 abbrev pub long_enough : ℕ → List ℕ → Answer Unit
 long_enough least lengths = firstRow (8 if too_short least lengths ∷ [])
@@ -32,7 +33,7 @@ lists_back h lists file times lows highs =
     long_enough read_room (length times ∷ length lows ∷ length highs ∷ []) >>= λ ok.
     accepted lists
 
-pub record WriteReadPromise (h : Header) (lists : Lists) (file₀ times₀ : List ℕ) (lows₀ highs₀ : List ℤ) (file times : List ℕ) (lows highs : List ℤ) (r : R.ReadAnswer) : Type 0 where
+pub record WriteReadPromise (h : Header) (lists : Lists) (file₀ times₀ : List ℕ) (lows₀ highs₀ : List ℤ) (file times : List ℕ) (lows highs : List ℤ) (r : Result TraceRecord Refusal) : Type 0 where
   pub answer_is : read_meaning r ≡ (lists_back h lists file₀ times₀ lows₀ highs₀ >>= λ back. accepted (record_of (trace_of h back)))
   pub file_is : file ≡ filled (write_into file₀ h lists) (λ bytes. bytes) file₀
   pub times_are : times ≡ filled (lists_back h lists file₀ times₀ lows₀ highs₀) (λ back. back.times) times₀
@@ -52,7 +53,7 @@ bytes_back file times lows highs copy =
     long_enough write_room (length copy ∷ []) >>= λ ok.
     accepted (rewritten file t)
 
-pub record ReadWritePromise (file times₀ : List ℕ) (lows₀ highs₀ : List ℤ) (copy₀ times : List ℕ) (lows highs : List ℤ) (copy : List ℕ) (w : W.WriteAnswer) : Type 0 where
+pub record ReadWritePromise (file times₀ : List ℕ) (lows₀ highs₀ : List ℤ) (copy₀ times : List ℕ) (lows highs : List ℤ) (copy : List ℕ) (w : Result ℕ Refusal) : Type 0 where
   pub answer_is : write_meaning w ≡ (bytes_back file times₀ lows₀ highs₀ copy₀ >>= λ bytes. accepted (length bytes))
   pub times_are : times ≡ filled (read_into times₀ lows₀ highs₀ file) (λ t. map (λ r. r.time) t.ranges) times₀
   pub lows_are : lows ≡ filled (read_into times₀ lows₀ highs₀ file) (λ t. map (λ r. r.low) t.ranges) lows₀

@@ -3,7 +3,8 @@
 
 ghost use Rattle.round_trip.specs.Promises.{WriteReadPromise, ReadWritePromise};
 
-use trace::{ReadAnswer, WriteAnswer, read, write};
+use definitions::refusals::Refusal;
+use trace::{TraceRecord, read, write};
 
 // The file of a trace in the lent bytes, and what Read gives of it in other lists: the lists that were given, and the trace's record.
 pub fn write_then_read(
@@ -18,14 +19,11 @@ pub fn write_then_read(
     times_back: &mut [u32],
     lows_back: &mut [i32],
     highs_back: &mut [i32],
-) -> ReadAnswer
+) -> Result<TraceRecord, Refusal>
     ensures { WriteReadPromise (record { address = address; service = record { level = level; direction = direction; step = step } }) (record { times = times.entry.now; lows = lows.now; highs = highs.now }) file.old times_back.old lows_back.old highs_back.old file.new times_back.new lows_back.new highs_back.new result }
 {
-    let written = write(address, level, direction, step, times, lows, highs, file);
-    match written {
-        WriteAnswer::Refused(number) => ReadAnswer::Refused(number),
-        WriteAnswer::Accepted(n) => read(&file[..n], times_back, lows_back, highs_back),
-    }
+    let n = write(address, level, direction, step, times, lows, highs, file)?;
+    read(&file[..n], times_back, lows_back, highs_back)
 }
 
 // The trace of a file in the lent lists, and what Write gives of them in other bytes: those of the file, or, where it has
@@ -36,24 +34,19 @@ pub fn read_then_write(
     lows: &mut [i32],
     highs: &mut [i32],
     copy: &mut [u8],
-) -> WriteAnswer
+) -> Result<usize, Refusal>
     ensures { ReadWritePromise file.now times.old lows.old highs.old copy.old times.new lows.new highs.new copy.new result }
 {
-    let answer = read(file, times, lows, highs);
-    match answer {
-        ReadAnswer::Refused(number) => WriteAnswer::Refused(number),
-        ReadAnswer::Accepted(known) => {
-            let n = known.ranges;
-            write(
-                known.address,
-                known.level,
-                known.direction,
-                known.step,
-                &times[..n],
-                &lows[..n],
-                &highs[..n],
-                copy,
-            )
-        }
-    }
+    let known = read(file, times, lows, highs)?;
+    let n = known.ranges;
+    write(
+        known.address,
+        known.level,
+        known.direction,
+        known.step,
+        &times[..n],
+        &lows[..n],
+        &highs[..n],
+        copy,
+    )
 }

@@ -1,128 +1,157 @@
 // The eleven numbers of a segment: as they stand in the slices, as a line of text, and in a digest.
-use definitions::limits::NO_TIME;
-use testing::lists::{long_time_or, number_or, time_or};
-use testing::telling::{mixed, mixed_signed, number, say, signed_number};
+ghost use Rattle.std.specs.Prelude.{◌<◌};
+
+use definitions::limits::{NO_TIME, SEGMENT_ROOM};
+use std::{fmt, io};
+use testing::telling::{Entry, mixed, mixed_signed};
 use values::Line;
-use values::rows::Row;
+use values::rows::{OutlookRow, Row};
 
-// What every entry holds before a call.
-pub const OLD: u32 = 77;
+// The slices that Segment fills.
+#[derive(Drop)]
+pub struct Columns {
+    pub first_times: [u32; SEGMENT_ROOM],
+    pub last_times: [u32; SEGMENT_ROOM],
+    pub counts: [u32; SEGMENT_ROOM],
+    pub slow_ps: [i64; SEGMENT_ROOM],
+    pub slow_qs: [i64; SEGMENT_ROOM],
+    pub slow_ds: [i64; SEGMENT_ROOM],
+    pub fast_ps: [i64; SEGMENT_ROOM],
+    pub fast_qs: [i64; SEGMENT_ROOM],
+    pub fast_ds: [i64; SEGMENT_ROOM],
+    pub somes: [u64; SEGMENT_ROOM],
+    pub alls: [u64; SEGMENT_ROOM],
+}
 
-pub const OLD_SIGNED: i64 = 77;
+// What stands at one place of them.
+#[derive(Clone, Copy, PartialEq)]
+pub struct Numbers(Row);
 
-pub const OLD_LONG: u64 = 77;
+const OLD_LINE: Line = Line {
+    p: 77,
+    q: 77,
+    d: 77,
+};
 
-// Entry k of each slice; past a slice's end, what it would hold before a call.
-pub fn row_at(
-    k: usize,
-    first_times: &[u32],
-    last_times: &[u32],
-    counts: &[u32],
-    slow_ps: &[i64],
-    slow_qs: &[i64],
-    slow_ds: &[i64],
-    fast_ps: &[i64],
-    fast_qs: &[i64],
-    fast_ds: &[i64],
-    somes: &[u64],
-    alls: &[u64],
-) -> Row {
-    let slow = Line {
-        p: number_or(slow_ps, k, OLD_SIGNED),
-        q: number_or(slow_qs, k, OLD_SIGNED),
-        d: number_or(slow_ds, k, OLD_SIGNED),
-    };
-    let fast = Line {
-        p: number_or(fast_ps, k, OLD_SIGNED),
-        q: number_or(fast_qs, k, OLD_SIGNED),
-        d: number_or(fast_ds, k, OLD_SIGNED),
-    };
-    Row {
-        first_time: time_or(first_times, k, OLD),
-        last_time: time_or(last_times, k, OLD),
-        count: time_or(counts, k, OLD),
-        slow,
-        fast,
-        some: long_time_or(somes, k, OLD_LONG),
-        all: long_time_or(alls, k, OLD_LONG),
+const OLD: Row = Row {
+    first_time: 77,
+    last_time: 77,
+    count: 77,
+    outlook: OutlookRow {
+        slow: OLD_LINE,
+        fast: OLD_LINE,
+        some: 77,
+        all: 77,
+    },
+};
+
+impl Columns {
+    // With what every entry holds before a call.
+    pub fn new() -> Columns {
+        Columns {
+            first_times: [OLD.first_time; SEGMENT_ROOM],
+            last_times: [OLD.last_time; SEGMENT_ROOM],
+            counts: [OLD.count; SEGMENT_ROOM],
+            slow_ps: [OLD_LINE.p; SEGMENT_ROOM],
+            slow_qs: [OLD_LINE.q; SEGMENT_ROOM],
+            slow_ds: [OLD_LINE.d; SEGMENT_ROOM],
+            fast_ps: [OLD_LINE.p; SEGMENT_ROOM],
+            fast_qs: [OLD_LINE.q; SEGMENT_ROOM],
+            fast_ds: [OLD_LINE.d; SEGMENT_ROOM],
+            somes: [OLD.outlook.some; SEGMENT_ROOM],
+            alls: [OLD.outlook.all; SEGMENT_ROOM],
+        }
+    }
+
+    pub fn numbers(&self, place: usize) -> Numbers
+        requires { place < SEGMENT_ROOM }
+    {
+        Numbers(Row {
+            first_time: self.first_times[place],
+            last_time: self.last_times[place],
+            count: self.counts[place],
+            outlook: OutlookRow {
+                slow: Line {
+                    p: self.slow_ps[place],
+                    q: self.slow_qs[place],
+                    d: self.slow_ds[place],
+                },
+                fast: Line {
+                    p: self.fast_ps[place],
+                    q: self.fast_qs[place],
+                    d: self.fast_ds[place],
+                },
+                some: self.somes[place],
+                all: self.alls[place],
+            },
+        })
     }
 }
 
-fn is_old_line(l: Line) -> bool {
-    l.p == OLD_SIGNED && l.q == OLD_SIGNED && l.d == OLD_SIGNED
+fn mixed_line(digest: u64, line: Line) -> u64 {
+    let Line { p, q, d } = line;
+    mixed_signed(mixed_signed(mixed_signed(digest, p), q), d)
 }
 
-pub fn is_old(r: Row) -> bool {
-    let place = r.first_time == OLD && r.last_time == OLD && r.count == OLD;
-    let slow = r.slow;
-    let fast = r.fast;
-    let lines = is_old_line(slow) && is_old_line(fast);
-    place && lines && r.some == OLD_LONG && r.all == OLD_LONG
-}
+// A line as its three numbers.
+#[derive(Clone, Copy)]
+struct OfLine(Line);
 
-fn mixed_line(digest: u64, l: Line) -> u64 {
-    mixed_signed(mixed_signed(mixed_signed(digest, l.p), l.q), l.d)
-}
-
-pub fn mixed_row(digest: u64, r: Row) -> u64 {
-    let first = mixed(digest, r.first_time as u64);
-    let last = mixed(first, r.last_time as u64);
-    let count = mixed(last, r.count as u64);
-    let slow_line = r.slow;
-    let fast_line = r.fast;
-    let slow = mixed_line(count, slow_line);
-    let fast = mixed_line(slow, fast_line);
-    mixed(mixed(fast, r.some), r.all)
-}
-
-fn tell_line(l: Line) {
-    say(b" ");
-    signed_number(l.p);
-    say(b" ");
-    signed_number(l.q);
-    say(b" ");
-    signed_number(l.d);
-}
-
-fn tell_time(t: u64) {
-    if t == NO_TIME {
-        say(b"none");
-    } else {
-        number(t);
+impl fmt::Display for OfLine {
+    fn fmt<W: fmt::Write>(&self, f: &mut fmt::Formatter<W>) -> fmt::Result {
+        let Line { p, q, d } = self.0;
+        write!(f, "{p} {q} {d}")
     }
 }
 
-fn tell_outlook(r: Row) {
-    let slow = r.slow;
-    let fast = r.fast;
-    say(b" slow");
-    tell_line(slow);
-    say(b" fast");
-    tell_line(fast);
-    say(b" some ");
-    tell_time(r.some);
-    say(b" all ");
-    tell_time(r.all);
-}
+// A time, or that there is none.
+#[derive(Clone, Copy)]
+struct OfTime(u64);
 
-fn tell_span(place: usize, r: Row) {
-    say(b"segment ");
-    number(place as u64);
-    say(b" from ");
-    number(r.first_time as u64);
-    say(b" to ");
-    number(r.last_time as u64);
-}
-
-// The report's line of the segment at this place, counted from 1. One range is open.
-pub fn tell_row(place: usize, r: Row) {
-    tell_span(place, r);
-    say(b" ranges ");
-    number(r.count as u64);
-    if r.count == 1 {
-        say(b" open");
-    } else {
-        tell_outlook(r);
+impl fmt::Display for OfTime {
+    fn fmt<W: fmt::Write>(&self, f: &mut fmt::Formatter<W>) -> fmt::Result {
+        let time = self.0;
+        if time == NO_TIME {
+            return write!(f, "none");
+        }
+        write!(f, "{time}")
     }
-    say(b"\n");
+}
+
+impl Entry for Numbers {
+    const OLD: Numbers = Numbers(OLD);
+
+    fn mixed(self, digest: u64) -> u64 {
+        let row = self.0;
+        let first = mixed(digest, u64::from(row.first_time));
+        let last = mixed(first, u64::from(row.last_time));
+        let count = mixed(last, u64::from(row.count));
+        let outlook = row.outlook;
+        let lines = mixed_line(mixed_line(count, outlook.slow), outlook.fast);
+        mixed(mixed(lines, outlook.some), outlook.all)
+    }
+
+    // The report's line of the segment at this place. One range is open.
+    fn tell(self, rt: &impl Print, place: usize) -> io::Result<()> {
+        let Row {
+            first_time,
+            last_time,
+            count,
+            outlook,
+        } = self.0;
+        print!(rt; "segment {place} from {first_time} to {last_time}")?;
+        if count == 1 {
+            return println!(rt; " ranges 1 open");
+        }
+        print!(rt;
+            " ranges {count} slow {} fast {}",
+            OfLine(outlook.slow),
+            OfLine(outlook.fast)
+        )?;
+        println!(rt;
+            " some {} all {}",
+            OfTime(outlook.some),
+            OfTime(outlook.all)
+        )
+    }
 }

@@ -2,42 +2,29 @@
 // direction and the step, and the three lists. Without a second number no slice is too short, without a third the
 // trace rises, without a fourth the step is 1.
 use crate::answers::tell;
-use fields::numbers::signed;
-use fields::parts::{byte_at, part};
-use testing::lists::{first_times, first_values};
-use testing::telling::say;
-use testing::trials::{line_end, place, read_line};
+use std::alloc::Global;
+use std::io;
+use testing::lists::entry_or;
+use testing::trials::{Trial, is_remark};
 
-fn trial(line: &[u8]) {
-    let mut params = [0u32, 11, 0, 1];
-    let mut times = [0u32; 64];
-    let mut lows = [0i32; 64];
-    let mut highs = [0i32; 64];
-    let r = read_line(line, &mut params, &mut times, &mut lows, &mut highs);
+fn tell_trial(rt: &impl Print, trial: &Trial) -> io::Result<()> {
+    let params = &trial.params;
     tell(
-        place(params[1]),
-        signed(params[0]),
-        params[2],
-        params[3],
-        first_times(&times, r.times),
-        first_values(&lows, r.lows),
-        first_values(&highs, r.highs),
-    );
+        rt,
+        entry_or(params, 1, 11) as usize,
+        entry_or(params, 0, 0).cast_signed(),
+        entry_or(params, 2, 0),
+        entry_or(params, 3, 1),
+        &trial.times,
+        &trial.lows,
+        &trial.highs,
+    )
 }
 
-fn tell_line(line: &[u8]) {
-    say(line);
-    say(b"\n");
-    if byte_at(line, 0) != b'#' {
-        trial(line);
+pub fn tell_line(rt: &impl Print, alloc: Global, line: &str) -> io::Result<()> {
+    println!(rt; "{line}")?;
+    if is_remark(line) {
+        return Ok(());
     }
-}
-
-pub fn all(text: &[u8]) {
-    let mut at = 0;
-    while at < text.len() {
-        let end = line_end(text, at);
-        tell_line(part(text, at, end - at));
-        at = end + 1;
-    }
+    tell_trial(rt, &Trial::read(alloc, line)?)
 }

@@ -3,5 +3,5 @@
 
 pub mod lists; // lists.rt: entries and first entries of lists
 pub mod shapes; // shapes.rt: long traces by formula
-pub mod telling; // telling.rt: text, numbers and digests
+pub mod telling; // telling.rt: digests, and what stands in slices after a call
 pub mod trials; // trials.rt: trials as lines of text

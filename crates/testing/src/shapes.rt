@@ -1,9 +1,7 @@
 // Long traces by formula: range k of each shape, for any k.
 ghost use Rattle.std.specs.Prelude.{◌<◌, ◌≤◌};
 
-use crate::lists::{set_time, set_value};
 use definitions::limits::MOST_RANGES;
-use fields::numbers::signed;
 
 #[derive(Clone, Copy)]
 pub enum Shape {
@@ -115,22 +113,20 @@ fn band_of(shape: Shape, k: u64, gap: u64) -> Band {
     }
 }
 
-fn time(k: u64, first: u64, gap: u64, late: u64) -> u32 {
+fn time_of(k: u64, first: u64, gap: u64, late: u64) -> u32 {
     ((first % 4294967296 + product(k, gap) + late % 2097152) % 4294967296) as u32
 }
 
 // The value that is x above the least one; 0 where there is none.
 fn value(x: u64) -> i32 {
-    if x < TOP {
-        signed((4294967296 - (TOP - x)) as u32)
-    } else if x <= TOP * 2 {
-        signed((x - TOP) as u32)
+    if x <= TOP * 2 {
+        x as i32 - TOP as i32
     } else {
         0
     }
 }
 
-// Fills three lists of at most 4,097 entries. The times begin with the first one; the gap is the one between due times.
+// Fills three lists. The times begin with the first one; the gap is the one between due times.
 pub fn fill(
     shape: Shape,
     first: u64,
@@ -139,12 +135,11 @@ pub fn fill(
     lows: &mut [i32],
     highs: &mut [i32],
 ) {
-    let mut k = 0;
-    while k < MOST_MADE {
-        let b = band_of(shape, k as u64, gap);
-        set_time(times, k, time(k as u64, first, gap, b.late));
-        set_value(lows, k, value(b.low));
-        set_value(highs, k, value(b.high));
-        k += 1;
+    let ranges = times.iter_mut().zip(lows).zip(highs);
+    for (k, ((time, low), high)) in (0..MOST_MADE as u64).zip(ranges) {
+        let band = band_of(shape, k, gap);
+        *time = time_of(k, first, gap, band.late);
+        *low = value(band.low);
+        *high = value(band.high);
     }
 }

@@ -1,59 +1,68 @@
-// What the test programs write: text, numbers, and digests that stand for many numbers.
-use std::num::wrapping_add_u64;
+// What the test programs write: digests that stand for many numbers, and what stands in the slices that a call filled.
+use std::io;
 
 // The largest prime below 2^32.
-const PRIME: u64 = 4294967291;
-
-pub fn say(text: &[u8]) {
-    io::write_all(1, text);
-}
-
-pub fn number(n: u64) {
-    io::print_decimal(1, n);
-}
-
-pub fn signed_number(x: i64) {
-    if x < 0 {
-        say(b"-");
-    }
-    number(size(x));
-}
-
-// |x|
-fn size(x: i64) -> u64 {
-    if x < 0 {
-        wrapping_add_u64((-1 - x) as u64, 1)
-    } else {
-        x as u64
-    }
-}
+const PRIME: i64 = 4294967291;
 
 // A digest with one number more: digest·1000003 + x modulo the prime.
 pub fn mixed(digest: u64, x: u64) -> u64 {
-    (digest % PRIME * 1000003 + x % PRIME) % PRIME
+    let prime = PRIME.cast_unsigned();
+    (digest % prime * 1000003 + x % prime) % prime
 }
 
 pub fn mixed_signed(digest: u64, x: i64) -> u64 {
-    let n = size(x) % PRIME;
-    if x < 0 {
-        mixed(digest, PRIME - n)
-    } else {
-        mixed(digest, n)
+    mixed(digest, x.rem_euclid(PRIME).cast_unsigned())
+}
+
+// What stands at one place of the slices that a call fills.
+pub trait Entry: Copy + PartialEq {
+    // What stands at every place before a call.
+    const OLD: Self;
+
+    // A digest with the entry's numbers more.
+    fn mixed(self, digest: u64) -> u64;
+
+    // Writes it, with its place counted from 1.
+    fn tell(self, rt: &impl Print, place: usize) -> io::Result<()>;
+}
+
+// What was seen of the slices so far: a digest of what the call put there, and whether the rest is as it was.
+#[derive(Clone, Copy)]
+pub struct Seen {
+    pub digest: u64,
+    pub kept: bool,
+}
+
+impl Seen {
+    pub fn nothing() -> Seen {
+        Seen {
+            digest: 1,
+            kept: true,
+        }
     }
-}
 
-// A remark on a line of its own.
-pub fn heading(name: &[u8]) {
-    say(b"# ");
-    say(name);
-    say(b"\n");
-}
+    // One place more. Of the entries that the call put there, `count`, the first are told, and the last one.
+    pub fn see<E: Entry>(
+        &mut self,
+        rt: &impl Print,
+        entry: E,
+        place: usize,
+        count: usize,
+        shown: usize,
+    ) -> io::Result<()> {
+        if count <= place {
+            self.kept = self.kept && entry == E::OLD;
+            return Ok(());
+        }
+        self.digest = entry.mixed(self.digest);
+        if place < shown || place + 1 == count {
+            entry.tell(rt, place + 1)?;
+        }
+        Ok(())
+    }
 
-// Whether the entries that a call should have left alone were.
-pub fn tell_kept(kept: bool) {
-    if kept {
-        say(b"kept");
-    } else {
-        say(b"changed");
+    // Whether the entries that a call should have left alone were.
+    pub fn rest(self) -> &'static str {
+        if self.kept { "kept" } else { "changed" }
     }
 }

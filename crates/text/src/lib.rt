@@ -1,7 +1,7 @@
 // Words and decimal numbers in a lent text. Each `put_..` puts its piece from `at` on and gives the place after it.
 #![tactic(auto)]
 
-ghost use Rattle.std.specs.Prelude.{◌≡◌, ◌++◌, length};
+ghost use Rattle.std.specs.Prelude.{◌≡◌, ℕ, List, ◌++◌, length};
 ghost use Rattle.definitions.specs.Report.{decimal, signed_decimal};
 ghost use Rattle.text.specs.Put.{Room, Put};
 
@@ -9,12 +9,9 @@ pub fn put_word(text: &mut [u8], at: usize, word: &[u8]) -> usize
     requires { Room at word.now text.old }
     ensures { Put at word.now text.old result text.new }
 {
-    let mut i = 0;
-    while i < word.len() {
-        text[at + i] = word[i];
-        i += 1;
-    }
-    at + i
+    let next = at + word.len();
+    text[at..next].copy_from_slice(word);
+    next
 }
 
 // How many digits n has.
@@ -23,6 +20,7 @@ fn digit_count(n: u64) -> usize
 {
     let mut count = 1;
     let mut rest = n;
+    // a turn divides, and nothing is gone through
     while 10 <= rest {
         count += 1;
         rest = rest / 10;
@@ -30,47 +28,49 @@ fn digit_count(n: u64) -> usize
     count
 }
 
+// A number that has a text in decimal digits.
+pub trait Decimal {
+    ghost digits: { Self → List ℕ };
+
+    fn put(self, text: &mut [u8], at: usize) -> usize
+        requires { Room at (digits self) text.old }
+        ensures { Put at (digits self) text.old result text.new };
+}
+
 // The digits go in from the last to the first.
-pub fn put_number(text: &mut [u8], at: usize, n: u64) -> usize
-    requires { Room at (decimal n) text.old }
-    ensures { Put at (decimal n) text.old result text.new }
-{
-    let next = at + digit_count(n);
-    let mut place = next;
-    let mut rest = n;
-    while at < place {
-        place -= 1;
-        text[place] = (48 + rest % 10) as u8;
-        rest = rest / 10;
+impl Decimal for u64 {
+    ghost digits = { decimal };
+
+    fn put(self, text: &mut [u8], at: usize) -> usize {
+        let next = at + digit_count(self);
+        let mut rest = self;
+        for place in (at..next).rev() {
+            text[place] = (48 + rest % 10) as u8;
+            rest = rest / 10;
+        }
+        next
     }
-    next
 }
 
-pub fn put_signed(text: &mut [u8], at: usize, n: i64) -> usize
-    requires { Room at (signed_decimal n) text.old }
-    ensures { Put at (signed_decimal n) text.old result text.new }
-{
-    if 0 <= n {
-        return put_number(text, at, n as u64);
+// A number below 0 is a minus sign and its size.
+impl Decimal for i64 {
+    ghost digits = { signed_decimal };
+
+    fn put(self, text: &mut [u8], at: usize) -> usize {
+        let size = self.unsigned_abs();
+        if 0 <= self {
+            return size.put(text, at);
+        }
+        let next = put_word(text, at, b"-");
+        size.put(text, next)
     }
-    let next = put_word(text, at, b"-");
-    put_number(text, next, (-1 - n) as u64 + 1)
 }
 
-// ---- a word, and what it tells
-
-pub fn put_count(text: &mut [u8], at: usize, word: &[u8], n: u64) -> usize
-    requires { Room at (word.now ++ decimal n) text.old }
-    ensures { Put at (word.now ++ decimal n) text.old result text.new }
+// A word, and the number that it tells.
+pub fn put_labelled<N: Decimal>(text: &mut [u8], at: usize, word: &[u8], n: N) -> usize
+    requires { Room at (word.now ++ N.digits n) text.old }
+    ensures { Put at (word.now ++ N.digits n) text.old result text.new }
 {
     let next = put_word(text, at, word);
-    put_number(text, next, n)
-}
-
-pub fn put_value(text: &mut [u8], at: usize, word: &[u8], n: i64) -> usize
-    requires { Room at (word.now ++ signed_decimal n) text.old }
-    ensures { Put at (word.now ++ signed_decimal n) text.old result text.new }
-{
-    let next = put_word(text, at, word);
-    put_signed(text, next, n)
+    n.put(text, next)
 }

@@ -3,4 +3,4 @@
 
 pub mod making; // making.rt: trace files
 pub mod reading; // reading.rt: a call of Read, and what is written of its answer
-pub mod telling; // telling.rt: titles, numbers and digests of slices
+pub mod telling; // telling.rt: answers, and digests of slices

@@ -1,28 +1,34 @@
 // A call of Read, and what is written of its answer: Read's own trials need it, and what Write wrote is read back by it.
-use crate::telling::{contents, lists_digest, number, signed_number};
-use testing::telling::say;
-use trace::{ReadAnswer, read};
+use crate::telling::{lists_digest, tell_answer, tell_contents};
+use std::{fmt, io};
+use trace::{TraceRecord, read};
 
-fn tell_answer(answer: ReadAnswer) {
-    match answer {
-        ReadAnswer::Accepted(record) => {
-            say(b" accepted");
-            number(record.address as u64);
-            signed_number(record.level);
-            number(record.direction as u64);
-            number(record.step as u64);
-            number(record.ranges as u64);
-        }
-        ReadAnswer::Refused(n) => {
-            say(b" refused");
-            number(n as u64);
-        }
+// A record as its five numbers.
+#[derive(Clone, Copy)]
+struct Numbers(TraceRecord);
+
+impl fmt::Display for Numbers {
+    fn fmt<W: fmt::Write>(&self, f: &mut fmt::Formatter<W>) -> fmt::Result {
+        let TraceRecord {
+            address,
+            level,
+            direction,
+            step,
+            ranges,
+        } = self.0;
+        write!(f, "{address} {level} {direction} {step} {ranges}")
     }
 }
 
 // Reads a file, and writes the rest of a line.
-pub fn tell_read(file: &[u8], times: &mut [u32], lows: &mut [i32], highs: &mut [i32]) {
+pub fn tell_read(
+    rt: &impl Print,
+    file: &[u8],
+    times: &mut [u32],
+    lows: &mut [i32],
+    highs: &mut [i32],
+) -> io::Result<()> {
     let before = lists_digest(times, lows, highs);
-    tell_answer(read(file, times, lows, highs));
-    contents(before, lists_digest(times, lows, highs));
+    tell_answer(rt, read(file, times, lows, highs).map(Numbers))?;
+    tell_contents(rt, before, lists_digest(times, lows, highs))
 }

@@ -9,3 +9,4 @@ pub mod ByPlace
 pub mod ShortLists
 pub mod LongerLists
 pub mod MirroredTrial
+pub mod RefusalNumbers

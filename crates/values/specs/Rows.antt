@@ -25,14 +25,14 @@ row_of r =
       first_time = r.first_time;
       last_time = r.last_time;
       count = r.count;
-      slow_p = r.slow.p;
-      slow_q = r.slow.q;
-      slow_d = r.slow.d;
-      fast_p = r.fast.p;
-      fast_q = r.fast.q;
-      fast_d = r.fast.d;
-      some = r.some;
-      all = r.all;
+      slow_p = r.outlook.slow.p;
+      slow_q = r.outlook.slow.q;
+      slow_d = r.outlook.slow.d;
+      fast_p = r.outlook.fast.p;
+      fast_q = r.outlook.fast.q;
+      fast_d = r.outlook.fast.d;
+      some = r.outlook.some;
+      all = r.outlook.all;
     }
 
 unfoldable pub time_from : ℕ → Time

@@ -1,5 +1,5 @@
-// Whole numbers: the greatest common divisor, the absolute value, and the quotient rounded up.
-ghost use Rattle.std.specs.Prelude.{◌≡◌, pos, nat_abs, ◌<ℤ◌};
+// Whole numbers: the greatest common divisor, and the quotient rounded up.
+ghost use Rattle.std.specs.Prelude.{◌≡◌, pos, ◌<ℤ◌};
 ghost use Rattle.integers.specs.Bounds.{Within};
 ghost use Rattle.integers.specs.Gcd.{gcd as gcdOf};
 ghost use Rattle.integers.specs.Rounding.{ceil_div};
@@ -11,20 +11,13 @@ pub fn gcd(a: u64, b: u64) -> u64
 {
     let mut x = a;
     let mut y = b;
-    while 0 < y {
+    // a turn divides, and nothing is gone through
+    while y != 0 {
         let rest = x % y;
         x = y;
         y = rest;
     }
     x
-}
-
-// |x|
-pub fn size(x: i64) -> u64
-    requires { Within half64 x }
-    ensures { result ≡ nat_abs x }
-{
-    if x < 0 { (0 - x) as u64 } else { x as u64 }
 }
 
 // n / d, rounded up.

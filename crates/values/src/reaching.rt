@@ -8,11 +8,11 @@ ghost use Rattle.trial_laws.specs.Accepted.{GoodStep, GoodService};
 ghost use Rattle.lines.specs.OutlookTimes.{reach_time, rises};
 ghost use Rattle.values.specs.Meanings.{line_of, service_of, side_of, time_of, outlook_of};
 ghost use Rattle.values.specs.Small.{Small};
-ghost use Rattle.values.specs.Reach.{look_ahead, BelowAt, Mirrored, TurnsFrom};
+ghost use Rattle.values.specs.Reach.{look_ahead, BelowAt, TurnsFrom};
 
 use crate::lowest_terms::reduced;
 use crate::numbers::ceil_div;
-use crate::{Line, Outlook, Service, Side, Time};
+use crate::{Direction, Line, Outlook, Service, Side};
 use definitions::limits::MOST_TIME;
 
 impl Line {
@@ -21,8 +21,8 @@ impl Line {
         requires { (Small self) × (Within most_value level) }
         ensures { side_of result ≡ side_at (line_of self) level time }
     {
-        let reading = self.p * (time as i64) + self.q;
-        let scaled = self.d * (level as i64);
+        let reading = self.p * i64::from(time) + self.q;
+        let scaled = self.d * i64::from(level);
         if reading < scaled {
             Side::Below
         } else if scaled < reading {
@@ -45,66 +45,54 @@ fn turns_from(step: u32, from: u32) -> Turns
     ensures { TurnsFrom step from result }
 {
     Turns {
-        first: (((from as u64) + ((step - 1) as u64)) / (step as u64)) as u32,
+        first: from.div_ceil(step),
         last: MOST_TIME / step,
     }
 }
 
-// When a line that is below the level at the first multiple rises to it: after (d·level − q)/(typeof.p.step) steps, rounded up, if the line rises and that is a time at all.
-fn crossing_time(l: Line, level: i32, step: u32, turns: Turns) -> Time
+// When a line that is below the level at the first multiple rises to it: after (d·level − q)/(p·step) steps, rounded up, if the line rises and that is a time at all.
+fn crossing_time(l: Line, level: i32, step: u32, turns: Turns) -> Option<u32>
     requires { (Small l) × (Within most_value level) × (GoodStep step) × (turns.last ≡ to_turn step most_time) × (BelowAt (line_of l) level (turns.first * step)) }
     ensures { time_of result ≡ reach_time (rises level step) (turns.first * step) (line_of l) }
 {
     let p = l.p;
     if 0 < p {
-        let k = ceil_div(l.d * (level as i64) - l.q, p * (step as i64));
-        if k <= turns.last as i64 {
-            Time::At((k as u32) * step)
+        let k = ceil_div(l.d * i64::from(level) - l.q, p * i64::from(step));
+        if k <= i64::from(turns.last) {
+            Some((k as u32) * step)
         } else {
-            Time::Never
+            None
         }
     } else {
-        Time::Never
+        None
     }
 }
 
 // The first multiple at which the line is at or above the level.
-fn rise_time(l: Line, level: i32, step: u32, turns: Turns) -> Time
+fn rise_time(l: Line, level: i32, step: u32, turns: Turns) -> Option<u32>
     requires { (Small l) × (Within most_value level) × (GoodStep step) × (turns.last ≡ to_turn step most_time) }
     ensures { time_of result ≡ reach_time (rises level step) (turns.first * step) (line_of l) }
 {
     if turns.last < turns.first {
-        return Time::Never;
+        return None;
     }
     let first = turns.first * step;
     let s = l.side(level, first);
     match s {
         Side::Below => crossing_time(l, level, step, turns),
-        Side::On | Side::Above => Time::At(first),
-    }
-}
-
-// The mirror image of a line: its values negated.
-fn mirrored(l: Line) -> Line
-    requires { Small l }
-    ensures { Mirrored l result }
-{
-    Line {
-        p: 0 - l.p,
-        q: 0 - l.q,
-        d: l.d,
+        Side::On | Side::Above => Some(first),
     }
 }
 
 // The first multiple at which the line has reached the level. It falls to the level when its mirror image rises to the level negated.
-fn reach_time(l: Line, v: Service, turns: Turns) -> Time
+fn reach_time(l: Line, v: Service, turns: Turns) -> Option<u32>
     requires { (Small l) × (GoodService (service_of v)) × (turns.last ≡ to_turn v.step most_time) }
     ensures { time_of result ≡ reach_time (service_of v) (turns.first * v.step) (line_of l) }
 {
-    if v.direction == 0 {
-        return rise_time(l, v.level, v.step, turns);
+    match v.direction {
+        Direction::Rising => rise_time(l, v.level, v.step, turns),
+        Direction::Falling => rise_time(-l, -v.level, v.step, turns),
     }
-    rise_time(mirrored(l), 0 - v.level, v.step, turns)
 }
 
 // On a rising trace some line of the fit has reached the level when the fast one has, and all when the slow one has; on a falling one it is the other way round. Found from the lines as they are, so that this need not wait for their lowest terms.
@@ -115,21 +103,14 @@ pub fn outlook_of(slow: Line, fast: Line, v: Service, last: u32) -> Outlook
     let turns = turns_from(v.step, last);
     let by_fast = reach_time(fast, v, turns);
     let by_slow = reach_time(slow, v, turns);
-    let s = reduced(slow);
-    let f = reduced(fast);
-    if v.direction == 0 {
-        Outlook::Lines {
-            slow: s,
-            fast: f,
-            some: by_fast,
-            all: by_slow,
-        }
-    } else {
-        Outlook::Lines {
-            slow: s,
-            fast: f,
-            some: by_slow,
-            all: by_fast,
-        }
+    let (some, all) = match v.direction {
+        Direction::Rising => (by_fast, by_slow),
+        Direction::Falling => (by_slow, by_fast),
+    };
+    Outlook::Lines {
+        slow: reduced(slow),
+        fast: reduced(fast),
+        some,
+        all,
     }
 }

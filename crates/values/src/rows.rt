@@ -4,23 +4,20 @@ ghost use Rattle.definitions.specs.Results.{time_number, numbers_of, outlook_num
 ghost use Rattle.values.specs.Meanings.{time_of, outlook_of, segment_of};
 ghost use Rattle.values.specs.Rows.{row_of, outlook_row_of, time_from, outlook_from, segment_from};
 
-use crate::{Line, Outlook, Segment, Time};
+use crate::{Line, Outlook, Segment};
 use definitions::limits::NO_TIME;
 
-// The numbers of a segment, in the slices' order; a line has three.
-#[derive(Clone, Copy)]
+// The numbers of a segment, in the slices' order: its own three, and those of its outlook.
+#[derive(Clone, Copy, PartialEq, Eq)]
 pub struct Row {
     pub first_time: u32,
     pub last_time: u32,
     pub count: u32,
-    pub slow: Line,
-    pub fast: Line,
-    pub some: u64,
-    pub all: u64,
+    pub outlook: OutlookRow,
 }
 
-// The numbers of an outlook, the last eight of a row.
-#[derive(Clone, Copy)]
+// The numbers of an outlook, eight in all, as a line has three.
+#[derive(Clone, Copy, PartialEq, Eq)]
 pub struct OutlookRow {
     pub slow: Line,
     pub fast: Line,
@@ -28,101 +25,101 @@ pub struct OutlookRow {
     pub all: u64,
 }
 
-fn time_number(t: Time) -> u64
+// The number above every time stands for none.
+#[tactic(auto, unfolding(definitions::specs::Results::time_number, crate::specs::Meanings::time_of))]
+fn time_number(t: Option<u32>) -> u64
     ensures { result ≡ time_number (time_of t) }
 {
-    match t {
-        Time::Never => NO_TIME,
-        Time::At(x) => x as u64,
-    }
+    t.map_or(NO_TIME, u64::from)
 }
 
-// The numbers of an outlook; an open one has 0 in each.
-pub fn outlook_row(o: Outlook) -> OutlookRow
-    ensures { outlook_row_of result ≡ outlook_numbers (outlook_of o) }
-{
-    match o {
-        Outlook::Open => {
-            let zeros = Line { p: 0, q: 0, d: 0 };
-            OutlookRow {
-                slow: zeros,
-                fast: zeros,
-                some: 0,
-                all: 0,
+// An open outlook has 0 in each.
+impl From<Outlook> for OutlookRow {
+    ghost from_gives = { λ outlook row. outlook_row_of row ≡ outlook_numbers (outlook_of outlook) };
+
+    #[tactic(auto, unfolding(definitions::specs::Results::slow_line, definitions::specs::Results::fast_line, definitions::specs::Results::some_number, definitions::specs::Results::all_number, crate::specs::Meanings::outlook_of))]
+    fn from(outlook: Outlook) -> OutlookRow {
+        match outlook {
+            Outlook::Open => {
+                let zeros = Line { p: 0, q: 0, d: 0 };
+                OutlookRow {
+                    slow: zeros,
+                    fast: zeros,
+                    some: 0,
+                    all: 0,
+                }
             }
+            Outlook::Lines {
+                slow,
+                fast,
+                some,
+                all,
+            } => OutlookRow {
+                slow,
+                fast,
+                some: time_number(some),
+                all: time_number(all),
+            },
         }
-        Outlook::Lines {
-            slow,
-            fast,
-            some,
-            all,
-        } => OutlookRow {
-            slow: slow,
-            fast: fast,
-            some: time_number(some),
-            all: time_number(all),
-        },
     }
 }
 
-// The last eight are those of the segment's outlook.
-pub fn row_of(s: Segment) -> Row
-    ensures { row_of result ≡ numbers_of (segment_of s) }
-{
-    let outlook = s.outlook;
-    let o = outlook_row(outlook);
-    let slow = o.slow;
-    let fast = o.fast;
-    Row {
-        first_time: s.first_time,
-        last_time: s.last_time,
-        count: s.count,
-        slow,
-        fast,
-        some: o.some,
-        all: o.all,
+// The last eight numbers are those of the segment's outlook.
+impl From<Segment> for Row {
+    ghost from_gives = { λ segment row. row_of row ≡ numbers_of (segment_of segment) };
+
+    #[tactic(auto, unfolding(definitions::specs::Results::numbers_of, crate::specs::Meanings::segment_of))]
+    fn from(segment: Segment) -> Row {
+        Row {
+            first_time: segment.first_time,
+            last_time: segment.last_time,
+            count: segment.count,
+            outlook: OutlookRow::from(segment.outlook),
+        }
     }
 }
 
 // A number above every time stands for none.
-fn time_from(number: u64) -> Time
+#[tactic(auto, unfolding(crate::specs::Rows::time_from, crate::specs::Meanings::time_of))]
+fn time_from(number: u64) -> Option<u32>
     ensures { time_of result ≡ time_from number }
 {
-    if number < NO_TIME {
-        Time::At(number as u32)
-    } else {
-        Time::Never
-    }
+    u32::try_from(number).ok()
 }
 
 // A segment of one range is open, whatever its lines and times are.
+#[tactic(auto, unfolding(crate::specs::Rows::outlook_from, crate::specs::Meanings::outlook_of))]
 fn outlook_from(r: Row) -> Outlook
     ensures { outlook_of result ≡ outlook_from (row_of r) }
 {
     if r.count < 2 {
         return Outlook::Open;
     }
-    let slow = r.slow;
-    let fast = r.fast;
-    let some = time_from(r.some);
-    let all = time_from(r.all);
-    Outlook::Lines {
+    let OutlookRow {
         slow,
         fast,
         some,
         all,
+    } = r.outlook;
+    Outlook::Lines {
+        slow,
+        fast,
+        some: time_from(some),
+        all: time_from(all),
     }
 }
 
 // The segment that has these numbers.
-pub fn segment_of(r: Row) -> Segment
-    ensures { segment_of result ≡ segment_from (row_of r) }
-{
-    let outlook = outlook_from(r);
-    Segment {
-        first_time: r.first_time,
-        last_time: r.last_time,
-        count: r.count,
-        outlook,
+impl From<Row> for Segment {
+    ghost from_gives = { λ row segment. segment_of segment ≡ segment_from (row_of row) };
+
+    #[tactic(auto, unfolding(crate::specs::Rows::segment_from, crate::specs::Meanings::segment_of))]
+    fn from(row: Row) -> Segment {
+        Segment {
+            first_time: row.first_time,
+            last_time: row.last_time,
+            count: row.count,
+            outlook: outlook_from(row),
+        }
     }
 }

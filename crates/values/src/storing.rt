@@ -10,10 +10,7 @@ pub fn store_line(ps: &mut [i64], qs: &mut [i64], ds: &mut [i64], at: usize, l: 
     requires { RowRoom (suc at) ps.old qs.old ds.old }
     ensures { RowsSet at (line_of l ∷ []) ps.old qs.old ds.old ps.new qs.new ds.new }
 {
-    let p = l.p;
-    let q = l.q;
-    let d = l.d;
-    ps[at] = p;
-    qs[at] = q;
-    ds[at] = d;
+    ps[at] = l.p;
+    qs[at] = l.q;
+    ds[at] = l.d;
 }

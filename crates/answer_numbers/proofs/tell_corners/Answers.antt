@@ -1,18 +1,21 @@
 -- Proof of `answer_numbers::tell_corners`, case by case. Assumes nothing.
-use mathlib.Core.Path.{ap}
-use Rattle.drift.specs.CornersPromise.{corners_meaning}
+use Rattle.std.proofs.Common.{◌≡◌, ap, refl, ℕ, Option, Some, None}
+use Rattle.std.specs.Option.{unwrap_or}
+use Rattle.drift.specs.CornersPromise.{counted, corners_meaning}
 use Rattle.answer_numbers.specs.Told.{corner_number}
 use Rattle.answer_numbers.specs.ToldLaws.{counts-accepted, counts-refused}
 use Rattle.answer_numbers.proofs.tell_corners.Goals as goal
 
-pub returns-in-Corners : goal.returns-in-Corners
-unfolding corners_meaning corner_number
-returns-in-Corners c = counts-accepted (ap corners_meaning c.in-Corners.is) corner_number c.args.count.now
+-- an open fit is told as no corners
+none-as-zero : (corners : Option ℕ) → unwrap_or corners 0 ≡ corner_number (counted corners)
+unfolding corner_number
+none-as-zero None = refl
+none-as-zero (Some n) = refl
 
-pub returns-in-Open : goal.returns-in-Open
+pub returns-in-Ok : goal.returns-in-Ok
 unfolding corners_meaning corner_number
-returns-in-Open c = counts-accepted (ap corners_meaning c.in-Open.is) corner_number c.args.count.now
+returns-in-Ok c = rw (c.unwrap_or.ensures, none-as-zero c.in-Ok.corners) (counts-accepted (ap corners_meaning c.in-Ok.is) corner_number c.args.count.now)
 
-pub returns-in-Refused : goal.returns-in-Refused
+pub returns-in-Err : goal.returns-in-Err
 unfolding corners_meaning
-returns-in-Refused c = counts-refused (ap corners_meaning c.in-Refused.is) corner_number c.args.count.now
+returns-in-Err c = rw c.from.ensures (counts-refused (ap corners_meaning c.in-Err.is) corner_number c.args.count.now)

@@ -1,18 +1,17 @@
 -- Proof of `answer_numbers::tell_read`, case by case. Assumes nothing.
-use mathlib.Core.Path.{ap}
-use borrow.Author.Rules.{rules}
+use Rattle.std.proofs.Common.{ap, rules}
 use Rattle.trace.specs.Promises.{read_meaning}
 use Rattle.answer_numbers.specs.ToldLaws.{read-accepted, read-refused}
 use Rattle.answer_numbers.proofs.tell_read.Goals as goal
 
-pub returns-in-Accepted : goal.returns-in-Accepted
+pub returns-in-Ok : goal.returns-in-Ok
 unfolding read_meaning
-returns-in-Accepted c =
+returns-in-Ok c =
     let args = c.args in
-    read-accepted (ap read_meaning c.in-Accepted.is) (search rules) args.address.now args.level.now args.direction.now args.step.now args.ranges.now
+    read-accepted (ap read_meaning c.in-Ok.is) (search rules) args.address.now args.level.now args.direction.now args.step.now args.ranges.now
 
-pub returns-in-Refused : goal.returns-in-Refused
+pub returns-in-Err : goal.returns-in-Err
 unfolding read_meaning
-returns-in-Refused c =
+returns-in-Err c =
     let args = c.args in
-    read-refused (ap read_meaning c.in-Refused.is) args.address.now args.level.now args.direction.now args.step.now args.ranges.now
+    rw c.from.ensures (read-refused (ap read_meaning c.in-Err.is) args.address.now args.level.now args.direction.now args.step.now args.ranges.now)

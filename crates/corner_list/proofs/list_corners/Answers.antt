@@ -1,15 +1,11 @@
 -- `corner_list::list_corners` meets its contract. Assumes nothing.
 use mathlib.Core.Path.{refl, ◌∙◌}
-use native.Mathlib.Omega.{arith}
 use Rattle.drift_laws.specs.LineRows.{room-kept}
 use Rattle.corner_list.specs.CornerRows.{room_slow, room_upper, room_fast, room_lower, slow_small, fast_small, upper_rises, lower_rises, corner_one, corner_all}
 use Rattle.corner_list.proofs.list_corners.Goals as goal
 
 pub put-requires : goal.put-requires
 put-requires c = let P = c.requires in (slow_small P.0 P.1, room-kept P.2 (room_slow P.0) refl refl refl)
-
-pub steeper-requires : goal.steeper-requires
-steeper-requires c = let S = c.requires.0 in (S.slow_in, S.fast_in)
 
 pub list_chain-m-requires : goal.list_chain-m-requires
 list_chain-m-requires c =
@@ -23,11 +19,6 @@ put-requires-then-steeper c =
     let K = c.put.auto in
     let J = c.list_chain-m.auto in
     (fast_small P.0 P.1 c.steeper.ensures c.if-steeper.true, room-kept P.2 (room_fast P.0 c.list_chain-m.ensures.count) (J.ps ∙ K.ps) (J.qs ∙ K.qs) (J.ds ∙ K.ds))
-
-pub overflow_add-m : goal.overflow_add-m
-overflow_add-m c =
-    let P = c.requires in
-    omega (arith, P.0.upper_held.some, P.0.lower_held.some, P.2.ps_long, c.list_chain-m.ensures.count, c.well_formed.1.1.1.1.1.0)
 
 pub list_chain-requires : goal.list_chain-requires
 list_chain-requires c =

@@ -1,14 +1,14 @@
 -- `humoraki::humoraki_add` meets its contract: the call below changes the panel, and its answer is told as a number. Assumes nothing.
-use Rattle.std.proofs.Common.{ℕ, ℤ, ◌≡◌, sym, to_z-of_z}
+use Rattle.definitions.specs.declared.refusals.Refusal.{Refusal}
+use Rattle.std.proofs.Common.{ℕ, ℤ, ◌≡◌, sym, to_z-of_z, Result}
 use Rattle.definitions.specs.Panels.{Panel}
-use Rattle.panel.specs.declared.AddAnswer.{AddAnswer}
 use Rattle.panel.specs.Promises.{AddPromise}
 use Rattle.humoraki.specs.PromiseLaws.{after-add}
 use Rattle.humoraki.proofs.humoraki_add.Goals as goal
 
 -- the low and the high are passed on as bits
 
-by_bits : {low high low' high' : ℤ} {old new : Panel} {a time : ℕ} {answer : AddAnswer} → low' ≡ low → high' ≡ high
+by_bits : {low high low' high' : ℤ} {old new : Panel} {a time : ℕ} {answer : Result Unit Refusal} → low' ≡ low → high' ≡ high
     → AddPromise old a (record { time = time; low = low'; high = high' }) answer new → AddPromise old a (record { time = time; low = low; high = high }) answer new
 by_bits e f h = rw (sym e, sym f) h
 

@@ -1,11 +1,12 @@
 -- `humoraki::humoraki_report` meets its contract: the call below fills the text, and its answer is told as numbers. Assumes nothing.
+use Rattle.report_text.specs.ReportPromise.{report_meaning}
 use Rattle.humoraki.specs.Promises.{ReportLent}
 use Rattle.humoraki.specs.PromiseLaws.{after-report}
-use Rattle.humoraki.proofs.humoraki_report.Goals.{After-report-answer, After-tell_report, Start}
+use Rattle.humoraki.proofs.humoraki_report.Goals.{After-report-answer, After-tell_count, Start}
 use Rattle.humoraki.proofs.humoraki_report.Goals as goal
 
-abbrev called : After-tell_report → After-report-answer
-called c = (goal.at.After-tell_report c).After-report-answer
+abbrev called : After-tell_count → After-report-answer
+called c = (goal.at.After-tell_count c).After-report-answer
 
 abbrev entry : After-report-answer → Start
 entry c = (goal.at.After-report-answer c).Start
@@ -14,6 +15,7 @@ abbrev lent : Start → ReportLent
 lent c = record { text = c.args.text.now; count = c.args.count.now }
 
 pub returns : goal.returns
+unfolding report_meaning
 returns c =
     let start = entry (called c) in
-    after-report start.args.file.now (lent start) (record { text = (called c).report-answer.new.text; count = c.tell_report.new.count }) (called c).report-answer.ensures c.tell_report.ensures
+    after-report start.args.file.now (lent start) (record { text = (called c).report-answer.new.text; count = c.tell_count.new.count }) (called c).report-answer.ensures c.tell_count.ensures

@@ -4,13 +4,13 @@ use mir.Facts.{to_z-of_z}
 use Rattle.definitions.specs.Services.{Service}
 use Rattle.definitions.specs.Ranges.{Lists}
 use Rattle.drift.specs.Columns.{Columns, columns}
-use Rattle.drift.specs.SegmentPromise.{SegmentPromise}
+use Rattle.drift.specs.SegmentPromise.{SegmentPromise, segment_meaning}
 use Rattle.humoraki.specs.PromiseLaws.{after-segment}
-use Rattle.humoraki.proofs.humoraki_segment.Goals.{After-segment-answer, After-tell_segment, Start}
+use Rattle.humoraki.proofs.humoraki_segment.Goals.{After-segment-answer, After-tell_count, Start}
 use Rattle.humoraki.proofs.humoraki_segment.Goals as goal
 
-abbrev called : After-tell_segment → After-segment-answer
-called c = (goal.at.After-tell_segment c).After-segment-answer
+abbrev called : After-tell_count → After-segment-answer
+called c = (goal.at.After-tell_count c).After-segment-answer
 
 abbrev entry : After-segment-answer → Start
 entry c = (goal.at.After-segment-answer c).Start
@@ -35,6 +35,7 @@ promise c =
     subst (λ level. SegmentPromise (record { level = level; direction = s.args.direction; step = s.args.step }) (lists s) (lent s) (left c) c.segment-answer.result) (to_z-of_z s.ranges.level) c.segment-answer.ensures
 
 pub returns : goal.returns
+unfolding segment_meaning
 returns c =
     let start = entry (called c) in
-    after-segment (service start) (lists start) (record { columns = lent start; count = start.args.count.now }) (record { columns = left (called c); count = c.tell_segment.new.count }) (promise (called c)) c.tell_segment.ensures
+    after-segment (service start) (lists start) (record { columns = lent start; count = start.args.count.now }) (record { columns = left (called c); count = c.tell_count.new.count }) (promise (called c)) c.tell_count.ensures

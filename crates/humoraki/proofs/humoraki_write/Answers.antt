@@ -3,14 +3,14 @@ use mathlib.Core.Path.{subst}
 use mir.Facts.{to_z-of_z}
 use Rattle.definitions.specs.Ranges.{Lists}
 use Rattle.definitions.specs.Headers.{Header}
-use Rattle.trace.specs.Promises.{WritePromise}
+use Rattle.trace.specs.Promises.{WritePromise, write_meaning}
 use Rattle.humoraki.specs.Promises.{WriteLent}
 use Rattle.humoraki.specs.PromiseLaws.{after_write}
-use Rattle.humoraki.proofs.humoraki_write.Goals.{After-tell_write, After-write-answer, Start}
+use Rattle.humoraki.proofs.humoraki_write.Goals.{After-tell_count, After-write-answer, Start}
 use Rattle.humoraki.proofs.humoraki_write.Goals as goal
 
-abbrev called : After-tell_write → After-write-answer
-called c = (goal.at.After-tell_write c).After-write-answer
+abbrev called : After-tell_count → After-write-answer
+called c = (goal.at.After-tell_count c).After-write-answer
 
 abbrev entry : After-write-answer → Start
 entry c = (goal.at.After-write-answer c).Start
@@ -32,6 +32,7 @@ promise c =
     subst (λ level. WritePromise (record { address = s.args.address; service = record { level = level; direction = s.args.direction; step = s.args.step } }) (lists s) (lent s).file c.write-answer.new.file c.write-answer.result) (to_z-of_z s.ranges.level) c.write-answer.ensures
 
 pub returns : goal.returns
+unfolding write_meaning
 returns c =
     let start = entry (called c) in
-    after_write (header start) (lists start) (lent start) (record { file = (called c).write-answer.new.file; count = c.tell_write.new.count }) (promise (called c)) c.tell_write.ensures
+    after_write (header start) (lists start) (lent start) (record { file = (called c).write-answer.new.file; count = c.tell_count.new.count }) (promise (called c)) c.tell_count.ensures

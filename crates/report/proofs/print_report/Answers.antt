@@ -5,7 +5,7 @@ use Rattle.report_text.specs.ReportPromiseLaws.{report-inside}
 use Rattle.report.proofs.print_report.Goals as goal
 
 pub slice_bounds-text-end : goal.slice_bounds-text-end
-slice_bounds-text-end c = report-inside c.in-Accepted.ensures
+slice_bounds-text-end c = report-inside c.in-Ok.ensures
 
 pub slice_bounds-write_all-end : goal.slice_bounds-write_all-end
-slice_bounds-write_all-end c = sym (length-take-le c.in-Accepted.count c.report-answer.new.text (report-inside c.in-Accepted.ensures))
+slice_bounds-write_all-end c = sym (length-take-le c.in-Ok.count c.report-answer.new.text (report-inside c.in-Ok.ensures))

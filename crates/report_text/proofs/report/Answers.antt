@@ -1,5 +1,6 @@
 -- `report_text::report` meets its contract: 8 for a text that is too short; else what Read answers is told. Assumes nothing.
-use mathlib.Core.Path.{sym, subst}
+use Rattle.std.proofs.Common.{sym, ap, ◌∙◌, subst}
+use Rattle.definitions.specs.Answers.{refused}
 use lib.IntN.{pos}
 use lib.ListN.{replicate}
 use lib.Seq.{length-take-le}
@@ -20,33 +21,33 @@ pub returns-then-text-lt-REPORT_ROOM : goal.returns-then-text-lt-REPORT_ROOM
 returns-then-text-lt-REPORT_ROOM c = promise_short c.args.file.now c.args.text.now c.if-text-lt-REPORT_ROOM.true
 
 pub slice_bounds-times-end : goal.slice_bounds-times-end
-slice_bounds-times-end c = (trace_read (promise (goal.at.slice_bounds-times-end c).After-read-answer) zero_room c.in-Accepted.is).inside.times_in
+slice_bounds-times-end c = (trace_read (promise (goal.at.slice_bounds-times-end c).After-read-answer) zero_room c.in-Ok.is).inside.times_in
 
 pub slice_bounds-put_trace-end : goal.slice_bounds-put_trace-end
-slice_bounds-put_trace-end c = sym (length-take-le c.in-Accepted.known.ranges c.read-answer.new.times (trace_read (promise (goal.at.slice_bounds-put_trace-end c).After-read-answer) zero_room c.in-Accepted.is).inside.times_in)
+slice_bounds-put_trace-end c = sym (length-take-le c.in-Ok.known.ranges c.read-answer.new.times (trace_read (promise (goal.at.slice_bounds-put_trace-end c).After-read-answer) zero_room c.in-Ok.is).inside.times_in)
 
 pub slice_bounds-lows-end : goal.slice_bounds-lows-end
-slice_bounds-lows-end c = (trace_read (promise (goal.at.slice_bounds-lows-end c).After-read-answer) zero_room c.in-Accepted.is).inside.lows_in
+slice_bounds-lows-end c = (trace_read (promise (goal.at.slice_bounds-lows-end c).After-read-answer) zero_room c.in-Ok.is).inside.lows_in
 
-pub slice_bounds-put_trace-end-in-Accepted : goal.slice_bounds-put_trace-end-in-Accepted
-slice_bounds-put_trace-end-in-Accepted c = sym (length-take-le c.in-Accepted.known.ranges c.read-answer.new.lows (trace_read (promise (goal.at.slice_bounds-put_trace-end-in-Accepted c).After-read-answer) zero_room c.in-Accepted.is).inside.lows_in)
+pub slice_bounds-put_trace-end-in-Ok : goal.slice_bounds-put_trace-end-in-Ok
+slice_bounds-put_trace-end-in-Ok c = sym (length-take-le c.in-Ok.known.ranges c.read-answer.new.lows (trace_read (promise (goal.at.slice_bounds-put_trace-end-in-Ok c).After-read-answer) zero_room c.in-Ok.is).inside.lows_in)
 
 pub slice_bounds-highs-end : goal.slice_bounds-highs-end
-slice_bounds-highs-end c = (trace_read (promise (goal.at.slice_bounds-highs-end c).After-read-answer) zero_room c.in-Accepted.is).inside.highs_in
+slice_bounds-highs-end c = (trace_read (promise (goal.at.slice_bounds-highs-end c).After-read-answer) zero_room c.in-Ok.is).inside.highs_in
 
-pub slice_bounds-put_trace-end-in-Accepted-2 : goal.slice_bounds-put_trace-end-in-Accepted-2
-slice_bounds-put_trace-end-in-Accepted-2 c = sym (length-take-le c.in-Accepted.known.ranges c.read-answer.new.highs (trace_read (promise (goal.at.slice_bounds-put_trace-end-in-Accepted-2 c).After-read-answer) zero_room c.in-Accepted.is).inside.highs_in)
+pub slice_bounds-put_trace-end-in-Ok-2 : goal.slice_bounds-put_trace-end-in-Ok-2
+slice_bounds-put_trace-end-in-Ok-2 c = sym (length-take-le c.in-Ok.known.ranges c.read-answer.new.highs (trace_read (promise (goal.at.slice_bounds-put_trace-end-in-Ok-2 c).After-read-answer) zero_room c.in-Ok.is).inside.highs_in)
 
-pub returns-in-Refused : goal.returns-in-Refused
-returns-in-Refused c =
+pub returns-in-Err : goal.returns-in-Err
+returns-in-Err c =
     let file = c.args.file.now in
-    let refuses = file_refused (promise (goal.at.returns-in-Refused c).After-read-answer) zero_room c.in-Refused.is in
+    let refuses = file_refused (promise (goal.at.returns-in-Err c).After-read-answer) zero_room c.in-Err.is in
     promise_put file c.args.text.now c.put_refused.new.text c.put_refused.result c.if-text-lt-REPORT_ROOM.false
-    (subst (λ bs. Put 0 bs c.args.text.now c.put_refused.result c.put_refused.new.text) (report-refused file c.in-Refused.number refuses) c.put_refused.ensures)
+    (subst (λ bs. Put 0 bs c.args.text.now c.put_refused.result c.put_refused.new.text) (report-refused file c.from.result (refuses ∙ ap refused (sym c.from.ensures))) c.put_refused.ensures)
 
-pub returns-in-Accepted : goal.returns-in-Accepted
-returns-in-Accepted c =
+pub returns-in-Ok : goal.returns-in-Ok
+returns-in-Ok c =
     let file = c.args.file.now in
-    let given = promise (goal.at.returns-in-Accepted c).After-read-answer in
+    let given = promise (goal.at.returns-in-Ok c).After-read-answer in
     promise_put file c.args.text.now c.put_trace.new.text c.put_trace.result c.if-text-lt-REPORT_ROOM.false
-    (subst (λ bs. Put 0 bs c.args.text.now c.put_trace.result c.put_trace.new.text) (told_is given zero_room (trace_read given zero_room c.in-Accepted.is)) c.put_trace.ensures)
+    (subst (λ bs. Put 0 bs c.args.text.now c.put_trace.result c.put_trace.new.text) (told_is given zero_room (trace_read given zero_room c.in-Ok.is)) c.put_trace.ensures)

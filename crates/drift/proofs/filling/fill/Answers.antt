@@ -14,6 +14,7 @@ use Rattle.definitions.specs.Splits.{cut}
 use Rattle.definitions.specs.Segments.{segments}
 use Rattle.definitions.specs.Results.{Segment, segments_of}
 use Rattle.values.specs.Meanings.{service_of, segment_of}
+use Rattle.fit.specs.ChainsOfEnds.{long_of}
 use Rattle.drift.specs.Columns.{Columns, columns, Room, SameLengths, FirstStored, AllStored}
 use Rattle.drift.specs.ColumnLaws.{first-none, first-lengths, first_room, first_next, rest_left, first-all}
 use Rattle.drift.specs.Filling.{FillReady, ranges-long}
@@ -38,19 +39,13 @@ ready : (c : Start) → FillReady (service c) (lists c) (old c)
 ready c = c.requires
 
 pub loop-start-init : goal.loop-start-init
-loop-start-init c = let s = (goal.at.loop-start-init c).Start in (record { within = omega arith; left = refl; stored = first-none (all s) (old s) }, refl, refl, refl, refl)
+loop-start-init c = let s = (goal.at.loop-start-init c).Start in (record { within = omega arith; left = refl; stored = first-none (all s) (old s) }, refl, refl)
 
 pub slice_bounds-segment_from-end : goal.slice_bounds-segment_from-end
 slice_bounds-segment_from-end c = sym c.loop-start.invariant.1
 
 pub slice_bounds-segment_from-end-in-loop-start : goal.slice_bounds-segment_from-end-in-loop-start
 slice_bounds-segment_from-end-in-loop-start c = sym c.loop-start.invariant.2
-
-pub slice_bounds-segment_from-end-in-loop-start-2 : goal.slice_bounds-segment_from-end-in-loop-start-2
-slice_bounds-segment_from-end-in-loop-start-2 c = sym c.loop-start.invariant.3
-
-pub slice_bounds-segment_from-end-in-loop-start-3 : goal.slice_bounds-segment_from-end-in-loop-start-3
-slice_bounds-segment_from-end-in-loop-start-3 c = sym c.loop-start.invariant.4
 
 pub segment_from-segment-requires : goal.segment_from-segment-requires
 segment_from-segment-requires c =
@@ -59,13 +54,10 @@ segment_from-segment-requires c =
     let kept = c.loop-start.invariant in
     record {
       tried = (ready s).tried;
-      up_room = record { times_long = omega (arith, few, kept.1); values_long = omega (arith, few, kept.2) };
-      down_room = record { times_long = omega (arith, few, kept.3); values_long = omega (arith, few, kept.4) };
+      up_room = long_of c.loop-start.up (omega (arith, few, kept.1));
+      down_room = long_of c.loop-start.down (omega (arith, few, kept.2));
       inside = c.loop-start-test.true;
     }
-
-pub row_of-row-requires : goal.row_of-row-requires
-row_of-row-requires c = tt
 
 -- ---- a turn, where its segment is known
 
@@ -158,7 +150,7 @@ loop-start-preserved c =
     let t = turn c in
     let lengths = t.loop-start.invariant in
     let kept = t.segment_from-segment.auto in
-    let row = c.row_of-row.ensures in
+    let row = c.from-row.ensures in
     let slow = c.store_line.ensures in
     let fast = c.store_line-in-loop-start.ensures in (
       record {
@@ -182,10 +174,8 @@ loop-start-preserved c =
             }
             ));
       },
-      kept.up_times ∙ lengths.1,
-      kept.up_values ∙ lengths.2,
-      kept.down_times ∙ lengths.3,
-      kept.down_values ∙ lengths.4,
+      kept.up ∙ lengths.1,
+      kept.down ∙ lengths.2,
     )
 
 -- ---- after the last turn

@@ -11,7 +11,7 @@ use Rattle.drift.proofs.filling.fill.Given as goal
 
 abbrev pub invariant-loop-start : goal.invariant-loop-start
 invariant-loop-start l =
-    Turn (service_of l.v) (record { times = l.times; lows = l.lows; highs = l.highs }) (columns l.initial.first_times l.initial.last_times l.initial.counts l.initial.slow_ps l.initial.slow_qs l.initial.slow_ds l.initial.fast_ps l.initial.fast_qs l.initial.fast_ds l.initial.somes l.initial.alls) (columns l.first_times l.last_times l.counts l.slow_ps l.slow_qs l.slow_ds l.fast_ps l.fast_qs l.fast_ds l.somes l.alls) l.start l.count × (length l.up_times ≡ most_ranges) × (length l.up_values ≡ most_ranges) × (length l.down_times ≡ most_ranges) × (length l.down_values ≡ most_ranges)
+    Turn (service_of l.v) (record { times = l.times; lows = l.lows; highs = l.highs }) (columns l.initial.first_times l.initial.last_times l.initial.counts l.initial.slow_ps l.initial.slow_qs l.initial.slow_ds l.initial.fast_ps l.initial.fast_qs l.initial.fast_ds l.initial.somes l.initial.alls) (columns l.first_times l.last_times l.counts l.slow_ps l.slow_qs l.slow_ds l.fast_ps l.fast_qs l.fast_ds l.somes l.alls) l.start l.count × (length l.up ≡ most_ranges) × (length l.down ≡ most_ranges)
 
 abbrev pub decreases-loop-start : goal.decreases-loop-start
 decreases-loop-start l =

@@ -2,13 +2,14 @@
 use Prim.Native.Nat.{◌<◌, ◌≤◌, ◌-◌}
 use mathlib.Core.Path.{◌≡◌}
 use Rattle.chains.specs.Pop.{trim}
-use Rattle.drift_laws.specs.ChainParts.{chain, stack, of_chain}
+use Rattle.drift_laws.specs.ChainParts.{stack, of_chain}
+use Rattle.fit.specs.ChainsOfEnds.{chain_of}
 use Rattle.fit.specs.LinesOfEnds.{point_of}
 use Rattle.fit.proofs.chain.pop_end.Given as goal
 
 abbrev pub invariant-loop-m : goal.invariant-loop-m
 invariant-loop-m l =
-    (l.from < l.m) × (l.m ≤ l.to) × (trim (point_of l.n) (stack (of_chain l.flip (chain l.times l.values)) l.from (l.m - l.from)) ≡ trim (point_of l.n) (stack (of_chain l.flip (chain l.times l.values)) l.from (l.to - l.from)))
+    (l.p.start < l.m) × (l.m ≤ l.p.end) × (trim (point_of l.n) (stack (of_chain l.flip (chain_of l.ends)) l.p.start (l.m - l.p.start)) ≡ trim (point_of l.n) (stack (of_chain l.flip (chain_of l.ends)) l.p.start (l.p.end - l.p.start)))
 
 abbrev pub decreases-loop-m : goal.decreases-loop-m
 decreases-loop-m l =

@@ -1,35 +1,36 @@
--- `fit::run::run_on` meets its contract. Assumes nothing.
--- a run that has not begun is not single here
+-- `fit::run::run_on` meets its contract: where it goes on from is known by which of the two it was. Assumes nothing.
 use mathlib.Core.Path.{◌≡◌}
-use mathlib.Core.Bool.{false}
 use Prim.Native.Nat.{◌-◌, ◌≤◌}
-use native.Mathlib.Nat.{le_of_lt}
-use Rattle.fit.specs.RunsOn.{true_false, two_room, go_ready, on_single, on_gone}
-use Rattle.fit.proofs.run.run_on.Goals.{Joined-else-not-begun, else-not-begun-via-then-not-begun+else-n-from-lt2, else-not-begun-via-else-not-begun}
+use Rattle.std.proofs.Common.{None}
+use Rattle.drift_laws.specs.RangeEnds.{lent}
+use Rattle.fit.specs.ChainsOfEnds.{chain_of, room_of}
+use Rattle.fit.specs.RunsOn.{Opened, some_none, opened-begun, opened-fresh, go_ready, on_single, on_gone, same_room}
+use Rattle.fit.proofs.run.run_on.Goals.{Joined-before, in-Some, in-None+else-n-from-lt2}
 use Rattle.fit.proofs.run.run_on.Goals as goal
 
-two-ranges : (c : Joined-else-not-begun) → c.args.begun ≡ false → 2 ≤ c.args.n - c.args.from
+two-ranges : (c : Joined-before) → c.args.before ≡ None → 2 ≤ c.args.n - c.args.from
 two-ranges c f =
-    elim c.else-not-begun.branch [
-      | else-not-begun-via-then-not-begun+else-n-from-lt2 w ↦ w.if-n-from-lt2.false
-      | else-not-begun-via-else-not-begun w ↦ true_false w.if-not-begun.false f
+    elim c.match-before.branch [
+      | in-Some w ↦ some_none w.in-Some.is f
+      | in-None+else-n-from-lt2 w ↦ w.if-n-from-lt2.false
     ]
 
-pub overflow_sub-n : goal.overflow_sub-n
-overflow_sub-n c = le_of_lt (c.requires.fresh c.if-not-begun.true).0
+opened : (c : Joined-before) → Opened (lent c.args.times.now c.args.highs.now c.args.lows.now) (chain_of c.args.up.now) (chain_of c.args.down.now) c.args.before c.args.from (chain_of c.match-before.up) (chain_of c.match-before.down) (record { end = c.match-before.next.1; polygon = c.match-before.next.0 })
+opened c =
+    elim c.match-before.branch [
+      | in-Some w ↦ rw (w.up-is, w.down-is, w.next-is) (opened-begun w.in-Some.polygon w.in-Some.is)
+      | in-None+else-n-from-lt2 w ↦ rw (w.up-is, w.down-is, w.next-is) (opened-fresh c.args.from w.in-None.is w.first_two.ensures)
+    ]
 
 pub returns-then-n-from-lt2 : goal.returns-then-n-from-lt2
-returns-then-n-from-lt2 c = on_single c.requires c.if-not-begun.true c.if-n-from-lt2.true
+returns-then-n-from-lt2 c = on_single c.requires c.in-None.is c.if-n-from-lt2.true
 
-pub opened-run-requires : goal.opened-run-requires
-opened-run-requires c = (c.requires.accepted, two_room c.requires (two-ranges (goal.at.opened-run-requires c).Joined-else-not-begun) c.ranges.n)
-
-pub go_on-requires : goal.go_on-requires
-go_on-requires c =
+pub go_on-gone-requires : goal.go_on-gone-requires
+go_on-gone-requires c =
     let P = c.requires in
-    let K = c.opened-run.auto in
-    let g = go_ready P (two-ranges (goal.at.go_on-requires c).Joined-else-not-begun) c.opened-run.ensures (K.up_times, K.up_values) (K.down_times, K.down_values) in
-    (P.accepted, g.within, P.upto, g.shape, g.up_room, g.down_room)
+    let m = (goal.at.go_on-gone-requires c).Joined-before in
+    let g = go_ready P (two-ranges m) (opened m) (same_room _ _ c.match-before.auto.up) (same_room _ _ c.match-before.auto.down) in
+    (P.accepted, g.within, P.upto, g.shape, room_of _ g.up_room, room_of _ g.down_room)
 
 pub returns : goal.returns
-returns c = on_gone c.requires (two-ranges (goal.at.returns c).Joined-else-not-begun) c.opened-run.ensures c.go_on.ensures
+returns c = let m = (goal.at.returns c).Joined-before in on_gone c.requires (two-ranges m) (opened m) c.go_on-gone.ensures

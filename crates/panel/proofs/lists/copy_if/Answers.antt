@@ -12,9 +12,9 @@ returns-then-take c =
     let taken = c.if-take.true in
     let args = c.args in
     record {
-      times_are = rw taken c.store_number.ensures;
-      lows_are = rw taken (c.store_value.ensures ∙ ap (set args.into_lows.now args.at) (search (rules, to_z-of_z)));
-      highs_are = rw taken (c.store_value-then-take.ensures ∙ ap (set args.into_highs.now args.at) (search (rules, to_z-of_z)));
+      times_are = rw taken c.store.ensures;
+      lows_are = rw taken (c.store-then-take.ensures ∙ ap (set args.into_lows.now args.at) (search (rules, to_z-of_z)));
+      highs_are = rw taken (c.store-then-take-2.ensures ∙ ap (set args.into_highs.now args.at) (search (rules, to_z-of_z)));
     }
 
 pub returns-else-take : goal.returns-else-take

@@ -1,92 +1,79 @@
--- Proof of `panel_trial::heads::panel_bad`: the code tries what makes a panel bad in the order of `bad_plain`. Assumes nothing.
-use Prim.Native.Nat.{◌≤◌}
-use native.Mathlib.Omega.{arith}
-use mathlib.Core.Path.{◌≡◌, sym, ap, ◌∙◌}
-use mathlib.Core.Bool.{false, ◌||◌}
-use lib.Dec.{ltb}
-use lib.ListN.{length, take}
-use lib.Seq.{length-take-le}
-use borrow.Author.Tests.{lt-ltb, le-ltb, eq-eqb, ne_eqb}
-use Rattle.definitions.specs.Trial.{bad_address}
-use Rattle.panel_laws.specs.Tallies.{sum_of, above_sure, miscounted_in, sum-above}
+-- Proof of `panel_trial::heads::panel_bad`: the code tries what makes a panel bad in the order of `bad_panel`. Assumes nothing.
+use Rattle.std.proofs.Common.{ℕ, ◌≡◌, ◌≤◌, List, length, take, sym, ap, ◌∙◌, arith, lt-ltb, le-ltb, length-take-le}
+use Rattle.std.specs.Prelude.{false, ◌||◌, eqb, ltb}
 use Rattle.integers.specs.Lists.{any}
-use Rattle.definitions.specs.Panels.{bad_panel, total_held}
-use Rattle.panel_laws.specs.PlainLists.{entries_of, hit, pass, bad_plain, bad-plain}
-use Rattle.panel_trial.proofs.heads.panel_bad.Goals.{After-some_outside-outside, After-total_of-total, After-twice_in-twice, Else-outside, Else-twice, Start}
+use Rattle.definitions.specs.Panels.{bad_panel, common_taken, miscounted, outside_address, twice}
+use Rattle.panel_laws.specs.PlainLists.{hit, pass}
+use Rattle.panel_laws.specs.PanelRows.{total_at_most}
+use Rattle.panel_trial.specs.Chains.{any_list}
+use Rattle.panel_trial.proofs.heads.panel_bad.Goals.{After-total_of-total, Else-is_empty, Else-entries-gt-MOST_HEADS, Else-twice, Else-some_outside}
 use Rattle.panel_trial.proofs.heads.panel_bad.Goals as goal
 
-plain : (c : Start) → bad_panel (entries_of c.args.heads.now c.args.held.now) (take (total_held (entries_of c.args.heads.now c.args.held.now)) c.args.addresses.now) ≡ bad_plain c.args.heads.now c.args.held.now c.args.addresses.now
-plain c = bad-plain c.args.heads.now c.args.held.now c.args.addresses.now c.requires.same c.requires.few
+pub returns-then-is_empty : goal.returns-then-is_empty
+unfolding bad_panel
+returns-then-is_empty c = sym (hit (sym c.if-is_empty.ensures) _)
 
-pub returns-then-heads-eq0 : goal.returns-then-heads-eq0
-unfolding bad_plain
-returns-then-heads-eq0 c =
-    let start = (goal.at.returns-then-heads-eq0 c).Start in
-    sym (plain start ∙ hit (eq-eqb _ 0 c.if-heads-eq0.true) _)
+-- past the first test
+
+some : (c : Else-is_empty) → eqb (length c.args.entries.now) 0 ≡ false
+some c = sym c.if-is_empty.ensures
+
+pub returns-then-entries-gt-MOST_HEADS : goal.returns-then-entries-gt-MOST_HEADS
+unfolding bad_panel
+returns-then-entries-gt-MOST_HEADS c = sym (pass (some (goal.at.returns-then-entries-gt-MOST_HEADS c).Else-is_empty) _ ∙ hit (lt-ltb 64 _ c.if-entries-gt-MOST_HEADS.true) _)
+
+-- past the second
+
+few : (c : Else-entries-gt-MOST_HEADS) (bs : List ℕ) → let es = c.args.entries.now in bad_panel es bs ≡ (twice es || (any outside_address es || (ltb 2048 (common_taken es) || any (miscounted bs) es)))
+unfolding bad_panel
+few c bs = pass (some (goal.at.Else-entries-gt-MOST_HEADS c).Else-is_empty) _ ∙ pass (le-ltb 64 _ c.if-entries-gt-MOST_HEADS.false) _
 
 pub returns-then-twice : goal.returns-then-twice
-unfolding bad_plain
-returns-then-twice c =
-    let start = (goal.at.returns-then-twice c).Start in
-    sym (plain start ∙ pass (ne_eqb _ 0 c.if-heads-eq0.false) _ ∙ hit (sym c.twice_in-twice.ensures ∙ c.if-twice.true) _)
-
--- past the second test
-
-untwice : (c : Else-twice) → let args = c.args in bad_plain args.heads.now args.held.now args.addresses.now ≡ any bad_address args.heads.now || (ltb 2048 (above_sure args.held.now) || miscounted_in (take (sum_of args.held.now) args.addresses.now) args.heads.now args.held.now)
-unfolding bad_plain
-untwice c = pass (ne_eqb _ 0 c.if-heads-eq0.false) _ ∙ pass (sym c.twice_in-twice.ensures ∙ c.if-twice.false) _
+returns-then-twice c = sym (few (goal.at.returns-then-twice c).Else-entries-gt-MOST_HEADS _ ∙ hit (sym c.if-twice.ensures) _)
 
 -- past the third
 
-inside : (c : Else-outside) → any bad_address c.args.heads.now ≡ false
-inside c = sym c.some_outside-outside.ensures ∙ c.if-outside.false
+once : (c : Else-twice) (bs : List ℕ) → let es = c.args.entries.now in bad_panel es bs ≡ (any outside_address es || (ltb 2048 (common_taken es) || any (miscounted bs) es))
+once c bs = few (goal.at.Else-twice c).Else-entries-gt-MOST_HEADS bs ∙ pass (sym c.if-twice.ensures) _
 
-pub returns-then-outside : goal.returns-then-outside
-unfolding bad_plain
-returns-then-outside c =
-    let start = (goal.at.returns-then-outside c).Start in
-    sym (plain start ∙ untwice (goal.at.returns-then-outside c).Else-twice ∙ hit (sym c.some_outside-outside.ensures ∙ c.if-outside.true) _)
+pub returns-then-some_outside : goal.returns-then-some_outside
+returns-then-some_outside c = sym (once (goal.at.returns-then-some_outside c).Else-twice _ ∙ hit (any_list outside_address c.args.entries.now ∙ sym c.if-some_outside.ensures) _)
 
-pub returns-then-common-gt-COMMON_PLACES : goal.returns-then-common-gt-COMMON_PLACES
-unfolding bad_plain
-returns-then-common-gt-COMMON_PLACES c =
-    let start = (goal.at.returns-then-common-gt-COMMON_PLACES c).Start in
-    let common = c.common_of-common.ensures in
-    sym (plain start ∙ untwice (goal.at.returns-then-common-gt-COMMON_PLACES c).Else-twice ∙ pass (inside (goal.at.returns-then-common-gt-COMMON_PLACES c).Else-outside) _ ∙ hit (ap (ltb 2048) (sym common) ∙ lt-ltb 2048 c.common_of-common.result c.if-common-gt-COMMON_PLACES.true) _)
+-- past the fourth
 
-abbrev start_of : After-total_of-total → Start
-start_of c = (goal.at.After-total_of-total c).Start
+inside : (c : Else-some_outside) → any outside_address c.args.entries.now ≡ false
+inside c = any_list outside_address c.args.entries.now ∙ sym c.if-some_outside.ensures
+
+pub returns-then-common_of-gt-COMMON_PLACES : goal.returns-then-common_of-gt-COMMON_PLACES
+returns-then-common_of-gt-COMMON_PLACES c =
+    let d = (goal.at.returns-then-common_of-gt-COMMON_PLACES c).Else-some_outside in
+    let more = ap (ltb 2048) (sym c.common_of.ensures) ∙ lt-ltb 2048 _ c.if-common_of-gt-COMMON_PLACES.true in
+    sym (once (goal.at.Else-some_outside d).Else-twice _ ∙ pass (inside d) _ ∙ hit more _)
 
 -- no place past 4,096 is read
 
 in-room : (c : After-total_of-total) → c.total_of-total.result ≤ 4096
 in-room c =
-    let common = c.common_of-common.ensures in
+    let common = c.common_of.ensures in
     let total = c.total_of-total.ensures in
-    let left = c.if-common-gt-COMMON_PLACES.false in
-    let same = (start_of c).requires.same in
-    let few = (start_of c).requires.few in
-    let bound = sum-above (start_of c).args.held.now in
-    omega (arith, common, total, left, same, few, bound)
+    let left = c.if-common_of-gt-COMMON_PLACES.false in
+    let most = c.if-entries-gt-MOST_HEADS.false in
+    let bound = total_at_most c.args.entries.now in
+    omega (arith, common, total, left, most, bound)
 
-small : (c : After-total_of-total) → c.total_of-total.result ≤ length (start_of c).args.addresses.now
-small c = let f = in-room c in let r = (start_of c).requires.room in omega (arith, f, r)
-
-few : (c : After-total_of-total) → length (take c.total_of-total.result (start_of c).args.addresses.now) ≤ 4096
-few c = let f = in-room c in let e = length-take-le _ (start_of c).args.addresses.now (small c) in omega (arith, f, e)
+held-long : (c : After-total_of-total) → length (take c.total_of-total.result c.args.addresses.now) ≡ c.total_of-total.result
+held-long c = let f = in-room c in let r = c.requires in length-take-le _ c.args.addresses.now (omega (arith, f, r))
 
 pub slice_bounds-miscounted-end : goal.slice_bounds-miscounted-end
-slice_bounds-miscounted-end c0 = let c = (goal.at.slice_bounds-miscounted-end c0).After-total_of-total in sym (length-take-le _ (start_of c).args.addresses.now (small c))
+slice_bounds-miscounted-end c = sym (held-long (goal.at.slice_bounds-miscounted-end c).After-total_of-total)
 
 pub miscounted-requires : goal.miscounted-requires
-miscounted-requires c0 = let c = (goal.at.miscounted-requires c0).After-total_of-total in ((start_of c).requires.same, (few c, inside (goal.at.miscounted-requires c0).Else-outside))
+miscounted-requires c = let d = (goal.at.miscounted-requires c).After-total_of-total in let f = in-room d in let e = held-long d in (omega (arith, e, f), inside (goal.at.miscounted-requires c).Else-some_outside)
 
 pub returns : goal.returns
-unfolding bad_plain
 returns c =
     let d = (goal.at.returns c).After-total_of-total in
-    let start = start_of d in
-    let common = d.common_of-common.ensures in
-    let uncommon = ap (ltb 2048) (sym common) ∙ le-ltb 2048 d.common_of-common.result d.if-common-gt-COMMON_PLACES.false in
-    let rest = c.miscounted.ensures ∙ ap (λ n. miscounted_in (take n start.args.addresses.now) start.args.heads.now start.args.held.now) d.total_of-total.ensures in
-    rest ∙ sym (plain start ∙ untwice (goal.at.returns c).Else-twice ∙ pass (inside (goal.at.returns c).Else-outside) _ ∙ pass uncommon _)
+    let kept = (goal.at.returns c).Else-some_outside in
+    let less = ap (ltb 2048) (sym d.common_of.ensures) ∙ le-ltb 2048 _ d.if-common_of-gt-COMMON_PLACES.false in
+    let rest = c.miscounted.ensures ∙ ap (λ n. any (miscounted (take n d.args.addresses.now)) d.args.entries.now) d.total_of-total.ensures in
+    rest ∙ sym (once (goal.at.returns c).Else-twice _ ∙ pass (inside kept) _ ∙ pass less _)

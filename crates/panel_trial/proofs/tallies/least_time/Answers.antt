@@ -29,20 +29,20 @@ module _ (a k : ℕ) (bs ts : List ℕ) (some : 0 < k) (l : k ≤ length bs) (sa
   unfolding either
   other_last e = last_of a k bs ts some l same ∙ ap (λ b. either b (get_or ts (k - 1) 0 + 1) (least_from a 0 (take (k - 1) bs) (take (k - 1) ts))) (ne_eqb (get_or bs (k - 1) 0) a e)
 
-pub returns-then-address-addresses : goal.returns-then-address-addresses
-returns-then-address-addresses c =
+pub returns-then-addresses-k : goal.returns-then-addresses-k
+returns-then-addresses-k c =
     let args = c.args in
-    sym (c.loop-k.invariant.1 ∙ own-last args.address c.loop-k.k args.addresses.now args.times.now c.loop-k-test.true c.loop-k.invariant.0 c.requires (sym c.if-address-addresses.true))
+    let l = c.loop-k.auto.k in
+    ap (λ n. n + 1) c.from.ensures ∙ sym (c.loop-k.invariant ∙ own-last args.address c.loop-k.k args.addresses.now args.times.now c.loop-k-test.true l c.requires c.if-addresses-k.true)
 
 pub loop-k-preserved : goal.loop-k-preserved
 loop-k-preserved c =
     let args = c.args in
-    let l = c.loop-k.invariant.0 in
-    (omega (arith, l), c.loop-k.invariant.1 ∙ other_last args.address c.loop-k.k args.addresses.now args.times.now c.loop-k-test.true l c.requires (λ e. c.if-address-addresses.false (sym e)))
+    c.loop-k.invariant ∙ other_last args.address c.loop-k.k args.addresses.now args.times.now c.loop-k-test.true c.loop-k.auto.k c.requires c.if-addresses-k.false
 
 pub returns : goal.returns
 unfolding least_from
 returns c =
     let args = c.args in
     let none : c.loop-k.k ≡ 0 = let l = c.loop-k-test.false in omega (arith, l) in
-    sym (c.loop-k.invariant.1 ∙ ap (λ i. least_from args.address 0 (take i args.addresses.now) (take i args.times.now)) none)
+    sym (c.loop-k.invariant ∙ ap (λ i. least_from args.address 0 (take i args.addresses.now) (take i args.times.now)) none)

@@ -1,14 +1,9 @@
 -- Proof of `panel_trial::tallies::least_time`. The loop's invariant: the least time after all is that after the first k, as none of the later ones has the address. Assumes nothing.
-use Prim.Native.Nat.{◌≤◌}
 use mathlib.Core.Path.{◌≡◌}
-use lib.ListN.{length, take}
+use lib.ListN.{take}
 use Rattle.panel_laws.specs.Tallies.{least_from}
 use Rattle.panel_trial.proofs.tallies.least_time.Given as goal
 
 abbrev pub invariant-loop-k : goal.invariant-loop-k
 invariant-loop-k l =
-    (l.k ≤ length l.addresses) × (least_from l.address 0 l.addresses l.times ≡ least_from l.address 0 (take l.k l.addresses) (take l.k l.times))
-
-abbrev pub decreases-loop-k : goal.decreases-loop-k
-decreases-loop-k l =
-    l.k
+    least_from l.address 0 l.addresses l.times ≡ least_from l.address 0 (take l.k l.addresses) (take l.k l.times)

@@ -13,7 +13,7 @@ use Rattle.definitions.specs.Report.{ascii, labelled, decimal, signed_decimal, t
 use Rattle.text.specs.Put.{Room, Put}
 use Rattle.text.specs.PutLaws.{put_then, room-front, room_then}
 use Rattle.report_text.specs.Short.{heading-short}
-use Rattle.report_text.proofs.report_lines.put_heading.Goals.{After-put_count-next, After-put_count-next-2, After-put_count-next-3, After-put_value-next, After-put_word, Start}
+use Rattle.report_text.proofs.report_lines.put_heading.Goals.{After-put_labelled-next, After-put_labelled-next-3, After-put_labelled-next-4, After-put_labelled-next-2, After-put_word, Start}
 use Rattle.report_text.proofs.report_lines.put_heading.Goals as goal
 
 abbrev address : Start → List ℕ
@@ -58,35 +58,35 @@ room-two s = room-front s.args.at (address s ++ level s) (ranges s) s.args.text.
 
 -- ---- what is put so far
 
-two : (c : After-put_value-next) → let s = (goal.at.After-put_value-next c).Start in Put c.args.at (address s ++ level s) c.args.text.now c.put_value-next.result c.put_value-next.new.text
-two c = put_then c.put_count-next.ensures (rw (level_is (goal.at.After-put_value-next c).Start) at c.put_value-next.ensures)
+two : (c : After-put_labelled-next-2) → let s = (goal.at.After-put_labelled-next-2 c).Start in Put c.args.at (address s ++ level s) c.args.text.now c.put_labelled-next-2.result c.put_labelled-next-2.new.text
+two c = put_then c.put_labelled-next.ensures (rw (level_is (goal.at.After-put_labelled-next-2 c).Start) at c.put_labelled-next-2.ensures)
 
-three : (c : After-put_count-next-2) → let s = (goal.at.After-put_count-next-2 c).Start in Put c.args.at (address s ++ level s ++ ranges s) c.args.text.now c.put_count-next-2.result c.put_count-next-2.new.text
-three c = put_then (two (goal.at.After-put_count-next-2 c).After-put_value-next) c.put_count-next-2.ensures
+three : (c : After-put_labelled-next-3) → let s = (goal.at.After-put_labelled-next-3 c).Start in Put c.args.at (address s ++ level s ++ ranges s) c.args.text.now c.put_labelled-next-3.result c.put_labelled-next-3.new.text
+three c = put_then (two (goal.at.After-put_labelled-next-3 c).After-put_labelled-next-2) c.put_labelled-next-3.ensures
 
-four : (c : After-put_count-next-3) → let s = (goal.at.After-put_count-next-3 c).Start in Put c.args.at (address s ++ level s ++ ranges s ++ segments s) c.args.text.now c.put_count-next-3.result c.put_count-next-3.new.text
-four c = put_then (three (goal.at.After-put_count-next-3 c).After-put_count-next-2) c.put_count-next-3.ensures
+four : (c : After-put_labelled-next-4) → let s = (goal.at.After-put_labelled-next-4 c).Start in Put c.args.at (address s ++ level s ++ ranges s ++ segments s) c.args.text.now c.put_labelled-next-4.result c.put_labelled-next-4.new.text
+four c = put_then (three (goal.at.After-put_labelled-next-4 c).After-put_labelled-next-3) c.put_labelled-next-4.ensures
 
 whole : (c : After-put_word) → Put c.args.at (trace_line c.args.address c.args.level c.args.ranges c.args.segments) c.args.text.now c.put_word.result c.put_word.new.text
 unfolding trace_line
-whole c = put_then (four (goal.at.After-put_word c).After-put_count-next-3) c.put_word.ensures
+whole c = put_then (four (goal.at.After-put_word c).After-put_labelled-next-4) c.put_word.ensures
 
 -- ---- the goals
 
-pub put_count-next-requires : goal.put_count-next-requires
-put_count-next-requires c = let s = (goal.at.put_count-next-requires c).Start in room-front c.args.at (address s) (level s) c.args.text.now (room-two s)
+pub put_labelled-next-requires : goal.put_labelled-next-requires
+put_labelled-next-requires c = let s = (goal.at.put_labelled-next-requires c).Start in room-front c.args.at (address s) (level s) c.args.text.now (room-two s)
 
-pub put_value-next-requires : goal.put_value-next-requires
-put_value-next-requires c = let s = (goal.at.put_value-next-requires c).Start in rw (level_is s) (room_then c.put_count-next.ensures (level s) (room-two s))
+pub put_labelled-next-requires-2 : goal.put_labelled-next-requires-2
+put_labelled-next-requires-2 c = let s = (goal.at.put_labelled-next-requires-2 c).Start in rw (level_is s) (room_then c.put_labelled-next.ensures (level s) (room-two s))
 
-pub put_count-next-requires-2 : goal.put_count-next-requires-2
-put_count-next-requires-2 c = let s = (goal.at.put_count-next-requires-2 c).Start in room_then (two (goal.at.put_count-next-requires-2 c).After-put_value-next) (ranges s) (room-three s)
+pub put_labelled-next-requires-3 : goal.put_labelled-next-requires-3
+put_labelled-next-requires-3 c = let s = (goal.at.put_labelled-next-requires-3 c).Start in room_then (two (goal.at.put_labelled-next-requires-3 c).After-put_labelled-next-2) (ranges s) (room-three s)
 
-pub put_count-next-requires-3 : goal.put_count-next-requires-3
-put_count-next-requires-3 c = let s = (goal.at.put_count-next-requires-3 c).Start in room_then (three (goal.at.put_count-next-requires-3 c).After-put_count-next-2) (segments s) (room-four s)
+pub put_labelled-next-requires-4 : goal.put_labelled-next-requires-4
+put_labelled-next-requires-4 c = let s = (goal.at.put_labelled-next-requires-4 c).Start in room_then (three (goal.at.put_labelled-next-requires-4 c).After-put_labelled-next-3) (segments s) (room-four s)
 
 pub put_word-requires : goal.put_word-requires
-put_word-requires c = room_then (four (goal.at.put_word-requires c).After-put_count-next-3) (ascii "\n") (room (goal.at.put_word-requires c).Start)
+put_word-requires c = room_then (four (goal.at.put_word-requires c).After-put_labelled-next-4) (ascii "\n") (room (goal.at.put_word-requires c).Start)
 
 pub returns : goal.returns
 returns c = let done = whole (goal.at.returns c).After-put_word in (done, omega (arith, done.next_is, short (goal.at.returns c).Start))

@@ -11,7 +11,7 @@ use Rattle.text.specs.PutLaws.{put_then, room-front, room_then}
 use Rattle.values.specs.Meanings.{line_of}
 use Rattle.report_text.specs.Lines.{line_bytes}
 use Rattle.report_text.specs.Short.{LineFits, line-short}
-use Rattle.report_text.proofs.report_lines.put_line.Goals.{After-put_value, After-put_value-next, After-put_value-next-2, Start}
+use Rattle.report_text.proofs.report_lines.put_line.Goals.{After-put_labelled, After-put_labelled-next, After-put_labelled-next-2, Start}
 use Rattle.report_text.proofs.report_lines.put_line.Goals as goal
 
 abbrev word-p : Start → List ℕ
@@ -37,26 +37,26 @@ room-two c = room-front c.args.at (word-p c ++ then-q c) (then-d c) c.args.text.
 
 -- ---- what is put so far
 
-one : (c : After-put_value-next) → let s = (goal.at.After-put_value-next c).Start in Put c.args.at (word-p s) c.args.text.now c.put_value-next.result c.put_value-next.new.text
-one c = rw (to_z-of_z (line-fits (goal.at.After-put_value-next c).Start).p_fits) at c.put_value-next.ensures
+one : (c : After-put_labelled-next) → let s = (goal.at.After-put_labelled-next c).Start in Put c.args.at (word-p s) c.args.text.now c.put_labelled-next.result c.put_labelled-next.new.text
+one c = rw (to_z-of_z (line-fits (goal.at.After-put_labelled-next c).Start).p_fits) at c.put_labelled-next.ensures
 
-two : (c : After-put_value-next-2) → let s = (goal.at.After-put_value-next-2 c).Start in Put c.args.at (word-p s ++ then-q s) c.args.text.now c.put_value-next-2.result c.put_value-next-2.new.text
-two c = put_then (one (goal.at.After-put_value-next-2 c).After-put_value-next) (rw (to_z-of_z (line-fits (goal.at.After-put_value-next-2 c).Start).q_fits) at c.put_value-next-2.ensures)
+two : (c : After-put_labelled-next-2) → let s = (goal.at.After-put_labelled-next-2 c).Start in Put c.args.at (word-p s ++ then-q s) c.args.text.now c.put_labelled-next-2.result c.put_labelled-next-2.new.text
+two c = put_then (one (goal.at.After-put_labelled-next-2 c).After-put_labelled-next) (rw (to_z-of_z (line-fits (goal.at.After-put_labelled-next-2 c).Start).q_fits) at c.put_labelled-next-2.ensures)
 
-whole : (c : After-put_value) → Put c.args.at (line_bytes c.args.word.now (line_of c.args.l)) c.args.text.now c.put_value.result c.put_value.new.text
+whole : (c : After-put_labelled) → Put c.args.at (line_bytes c.args.word.now (line_of c.args.l)) c.args.text.now c.put_labelled.result c.put_labelled.new.text
 unfolding line_bytes
-whole c = put_then (two (goal.at.After-put_value c).After-put_value-next-2) (rw (to_z-of_z (line-fits (goal.at.After-put_value c).Start).d_fits) at c.put_value.ensures)
+whole c = put_then (two (goal.at.After-put_labelled c).After-put_labelled-next-2) (rw (to_z-of_z (line-fits (goal.at.After-put_labelled c).Start).d_fits) at c.put_labelled.ensures)
 
 -- ---- the goals
 
-pub put_value-next-requires : goal.put_value-next-requires
-put_value-next-requires c = let s = (goal.at.put_value-next-requires c).Start in rw (to_z-of_z (line-fits s).p_fits) (room-front c.args.at (word-p s) (then-q s) c.args.text.now (room-two s))
+pub put_labelled-next-requires : goal.put_labelled-next-requires
+put_labelled-next-requires c = let s = (goal.at.put_labelled-next-requires c).Start in rw (to_z-of_z (line-fits s).p_fits) (room-front c.args.at (word-p s) (then-q s) c.args.text.now (room-two s))
 
-pub put_value-next-requires-2 : goal.put_value-next-requires-2
-put_value-next-requires-2 c = let s = (goal.at.put_value-next-requires-2 c).Start in rw (to_z-of_z (line-fits s).q_fits) (room_then (one (goal.at.put_value-next-requires-2 c).After-put_value-next) (then-q s) (room-two s))
+pub put_labelled-next-requires-2 : goal.put_labelled-next-requires-2
+put_labelled-next-requires-2 c = let s = (goal.at.put_labelled-next-requires-2 c).Start in rw (to_z-of_z (line-fits s).q_fits) (room_then (one (goal.at.put_labelled-next-requires-2 c).After-put_labelled-next) (then-q s) (room-two s))
 
-pub put_value-requires : goal.put_value-requires
-put_value-requires c = let s = (goal.at.put_value-requires c).Start in rw (to_z-of_z (line-fits s).d_fits) (room_then (two (goal.at.put_value-requires c).After-put_value-next-2) (then-d s) (room s))
+pub put_labelled-requires : goal.put_labelled-requires
+put_labelled-requires c = let s = (goal.at.put_labelled-requires c).Start in rw (to_z-of_z (line-fits s).d_fits) (room_then (two (goal.at.put_labelled-requires c).After-put_labelled-next-2) (then-d s) (room s))
 
 pub returns : goal.returns
-returns c = let done = whole (goal.at.returns c).After-put_value in (done, omega (arith, done.next_is, line-short c.args.word.now c.requires.0 (line_of c.args.l) (line-fits (goal.at.returns c).Start)))
+returns c = let done = whole (goal.at.returns c).After-put_labelled in (done, omega (arith, done.next_is, line-short c.args.word.now c.requires.0 (line_of c.args.l) (line-fits (goal.at.returns c).Start)))

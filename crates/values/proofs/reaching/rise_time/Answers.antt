@@ -5,11 +5,9 @@ use Prim.Native.Nat.{◌*◌, ◌≤◌}
 use native.Mathlib.Omega.{arith}
 use lib.Dec.{T}
 use mir.Syntax.{w32}
-use borrow.Author.Rules.{rules}
 use Rattle.integers.specs.Multiples.{to_turn, to_turns}
 use Rattle.definitions.specs.Spans.{most_time}
 use Rattle.definitions.specs.Lines.{side_at, at_or_above}
-use Rattle.lines.specs.OutlookTimes.{reach_time, rises}
 use Rattle.values.specs.declared.Side.{Side}
 use Rattle.values.specs.declared.Side.TheVariants.{On, Above}
 use Rattle.values.specs.Meanings.{line_of, side_of, time_of}
@@ -35,9 +33,6 @@ overflow_mul-first c =
     let within : c.args.turns.first * c.args.step ≤ most_time = (to_turns c.args.step c.requires.2.over most_time c.args.turns.first).1 (in-time (goal.at.overflow_mul-first c).Else-turns) in
     record { fits = omega arith }
 
-pub enum_told-1 : goal.enum_told-1
-enum_told-1 c = search rules
-
 tells : (c : After-side-s) → side_of c.side-s.result ≡ side_at (line_of c.args.l) c.args.level (c.args.turns.first * c.args.step)
 tells c = let A = c.args in c.side-s.ensures ∙ ap (λ z. side_at (line_of A.l) z (A.turns.first * A.step)) (read_back w32 c.requires.1 tt)
 
@@ -47,11 +42,6 @@ crossing_time-requires c =
     let A = c.args in
     rw (read_back w32 c.requires.1 tt)
     (c.requires.0, c.requires.1, c.requires.2, c.requires.3, below_is (line_of A.l) A.level (A.turns.first * A.step) (sym (tells (goal.at.crossing_time-requires c).After-side-s) ∙ ap side_of c.in-Below.is))
-
-pub returns-in-Below : goal.returns-in-Below
-returns-in-Below c =
-    let A = c.args in
-    c.crossing_time.ensures ∙ ap (λ z. reach_time (rises z A.step) (A.turns.first * A.step) (line_of A.l)) (read_back w32 c.requires.1 tt)
 
 -- the second arm is that of two variants, and in each the line is at or above the level
 

@@ -1,19 +1,22 @@
--- `values::reaching::turns_from` meets its contract: the sum does not wrap in 64 bits, and the quotient is at most `from`. Assumes nothing.
-use mathlib.Core.Path.{refl}
-use Prim.Native.Nat.{◌+◌, ◌-◌, ◌<◌}
-use native.Mathlib.Nat as NatL
-use native.Mathlib.Omega.{arith}
-use Rattle.integers.specs.Rounding.{ceil_divℕ}
+-- `values::reaching::turns_from` meets its contract: the library's quotient rounded up is the definitions'. Assumes nothing.
+use Rattle.std.proofs.Common.{◌≡◌, refl, ◌∙◌, ℕ, ◌+◌, ◌*◌, ◌<◌, ◌≤◌, arith}
+use Rattle.std.specs.Int.{div_ceil}
+use Rattle.std.proofs.Math.Nat as NatL
+use Rattle.std.proofs.lemmas.Grind.{div_ceil_times}
+use Rattle.integers.specs.Rounding.{ceil_divℕ, ceil_divℕ-iff}
 use Rattle.integers.specs.Multiples.{from_turn, to_turn}
 use Rattle.values.proofs.reaching.turns_from.Goals as goal
 
-pub overflow_cast-result-4 : goal.overflow_cast-result-4
-overflow_cast-result-4 c =
-    let s = c.args in
-    let over : 0 < s.step = c.requires in
-    let until : s.from < 4294967296 = omega arith in
-    record { fits = (NatL.div-lt_iff_lt-mul {k = s.step} {x = s.from + (s.step - 1)} {y = 4294967296} over).1 (omega arith) }
+same : (n d : ℕ) → 0 < d → div_ceil n d ≡ ceil_divℕ n d
+same n d over =
+    let q = div_ceil n d in
+    let c = ceil_divℕ n d in
+    let bounds : (n ≤ q * d) × (q * d < n + d) = div_ceil_times n d over in
+    let below : c ≤ q = (ceil_divℕ-iff n d over q).0 (omega arith) in
+    let reaches : n ≤ d * c = (ceil_divℕ-iff n d over c).1 (NatL.le_refl c) in
+    let above : q < c + 1 = NatL.lt_of_mul-lt-mul_right d (omega arith) in
+    omega arith
 
 pub returns : goal.returns
-unfolding from_turn to_turn ceil_divℕ
-returns c = record { first-is = refl; last_is = refl }
+unfolding from_turn to_turn
+returns c = record { first-is = c.div_ceil.ensures ∙ same c.args.from c.args.step c.requires; last_is = refl }
