@@ -13,7 +13,7 @@ pub fn put_refused(text: &mut [u8], at: usize, number: u8) -> usize
     requires { at + 256 ≤ length text.old }
     ensures { Put at (refused_line number) text.old result text.new }
 {
-    let next = put_labelled(text, at, b"refused ", number as u64);
+    let next = put_labelled(text, at, b"refused ", u64::from(number));
     put_word(text, next, b"\n")
 }
 
@@ -29,8 +29,8 @@ pub fn put_heading(
     requires { at + 256 ≤ length text.old }
     ensures { (Put at (trace_line address level ranges segments) text.old result text.new) × (result ≤ at + 256) }
 {
-    let next = put_labelled(text, at, b"detector ", address as u64);
-    let next = put_labelled(text, next, b" level ", level as i64);
+    let next = put_labelled(text, at, b"detector ", u64::from(address));
+    let next = put_labelled(text, next, b" level ", i64::from(level));
     let next = put_labelled(text, next, b" ranges ", ranges as u64);
     let next = put_labelled(text, next, b" segments ", segments as u64);
     put_word(text, next, b"\n")
@@ -84,10 +84,10 @@ fn put_span(text: &mut [u8], at: usize, place: u32, first: u32, last: u32, count
     requires { at + 66 ≤ length text.old }
     ensures { (Put at (span_text place first last count) text.old result text.new) × (result ≤ at + 66) }
 {
-    let next = put_labelled(text, at, b"segment ", place as u64);
-    let next = put_labelled(text, next, b" from ", first as u64);
-    let next = put_labelled(text, next, b" to ", last as u64);
-    put_labelled(text, next, b" ranges ", count as u64)
+    let next = put_labelled(text, at, b"segment ", u64::from(place));
+    let next = put_labelled(text, next, b" from ", u64::from(first));
+    let next = put_labelled(text, next, b" to ", u64::from(last));
+    put_labelled(text, next, b" ranges ", u64::from(count))
 }
 
 // The line of a segment.

@@ -1,7 +1,7 @@
 -- `report_text::report_lines::put_heading` meets its contract: four words, each with its number, and the line feed. Assumes nothing.
 -- ---- the pieces
 use Prim.Native.Nat.{ℕ, ◌≤◌}
-use mathlib.Core.Path.{◌≡◌, ◌∙◌, subst}
+use mathlib.Core.Path.{◌≡◌, ap, ◌∙◌, subst}
 use mathlib.Core.List.{List, ◌++◌}
 use native.Mathlib.Omega.{arith}
 use lib.ListN.{length}
@@ -13,7 +13,7 @@ use Rattle.definitions.specs.Report.{ascii, labelled, decimal, signed_decimal, t
 use Rattle.text.specs.Put.{Room, Put}
 use Rattle.text.specs.PutLaws.{put_then, room-front, room_then}
 use Rattle.report_text.specs.Short.{heading-short}
-use Rattle.report_text.proofs.report_lines.put_heading.Goals.{After-put_labelled-next, After-put_labelled-next-3, After-put_labelled-next-4, After-put_labelled-next-2, After-put_word, Start}
+use Rattle.report_text.proofs.report_lines.put_heading.Goals.{After-from-2, After-put_labelled-next, After-put_labelled-next-3, After-put_labelled-next-4, After-put_labelled-next-2, After-put_word, Start}
 use Rattle.report_text.proofs.report_lines.put_heading.Goals as goal
 
 abbrev address : Start → List ℕ
@@ -33,8 +33,8 @@ segments s = labelled " segments " (decimal s.args.segments)
 wide : (s : Start) → SFits w64 (to_z w32 (of_z w32 s.args.level))
 wide s = no_overflow! (s.ranges.level ▸ end) (search reads depth 30) tt
 
-level_is : (s : Start) → to_z w64 (of_z w64 (to_z w32 (of_z w32 s.args.level))) ≡ s.args.level
-level_is s = to_z-of_z (wide s) ∙ to_z-of_z s.ranges.level
+level_is : (c : After-from-2) → to_z w64 (of_z w64 c.from-2.result) ≡ c.args.level
+level_is c = let s = (goal.at.After-from-2 c).Start in ap (λ z. to_z w64 (of_z w64 z)) c.from-2.ensures ∙ to_z-of_z (wide s) ∙ to_z-of_z s.ranges.level
 
 -- ---- room for them
 
@@ -59,7 +59,7 @@ room-two s = room-front s.args.at (address s ++ level s) (ranges s) s.args.text.
 -- ---- what is put so far
 
 two : (c : After-put_labelled-next-2) → let s = (goal.at.After-put_labelled-next-2 c).Start in Put c.args.at (address s ++ level s) c.args.text.now c.put_labelled-next-2.result c.put_labelled-next-2.new.text
-two c = put_then c.put_labelled-next.ensures (rw (level_is (goal.at.After-put_labelled-next-2 c).Start) at c.put_labelled-next-2.ensures)
+two c = put_then (rw c.from.ensures at c.put_labelled-next.ensures) (rw (level_is (goal.at.After-put_labelled-next-2 c).After-from-2) at c.put_labelled-next-2.ensures)
 
 three : (c : After-put_labelled-next-3) → let s = (goal.at.After-put_labelled-next-3 c).Start in Put c.args.at (address s ++ level s ++ ranges s) c.args.text.now c.put_labelled-next-3.result c.put_labelled-next-3.new.text
 three c = put_then (two (goal.at.After-put_labelled-next-3 c).After-put_labelled-next-2) c.put_labelled-next-3.ensures
@@ -74,10 +74,10 @@ whole c = put_then (four (goal.at.After-put_word c).After-put_labelled-next-4) c
 -- ---- the goals
 
 pub put_labelled-next-requires : goal.put_labelled-next-requires
-put_labelled-next-requires c = let s = (goal.at.put_labelled-next-requires c).Start in room-front c.args.at (address s) (level s) c.args.text.now (room-two s)
+put_labelled-next-requires c = let s = (goal.at.put_labelled-next-requires c).Start in rw c.from.ensures (room-front c.args.at (address s) (level s) c.args.text.now (room-two s))
 
 pub put_labelled-next-requires-2 : goal.put_labelled-next-requires-2
-put_labelled-next-requires-2 c = let s = (goal.at.put_labelled-next-requires-2 c).Start in rw (level_is s) (room_then c.put_labelled-next.ensures (level s) (room-two s))
+put_labelled-next-requires-2 c = let s = (goal.at.put_labelled-next-requires-2 c).Start in rw (level_is (goal.at.put_labelled-next-requires-2 c).After-from-2) (room_then (rw c.from.ensures at c.put_labelled-next.ensures) (level s) (room-two s))
 
 pub put_labelled-next-requires-3 : goal.put_labelled-next-requires-3
 put_labelled-next-requires-3 c = let s = (goal.at.put_labelled-next-requires-3 c).Start in room_then (two (goal.at.put_labelled-next-requires-3 c).After-put_labelled-next-2) (ranges s) (room-three s)

@@ -17,14 +17,14 @@ unfolding refused_line
 room s = omega (arith, s.requires, refused-short s.args.number s.ranges.number)
 
 pub put_labelled-next-requires : goal.put_labelled-next-requires
-put_labelled-next-requires c = let s = (goal.at.put_labelled-next-requires c).Start in room-front c.args.at (number s) (ascii "\n") c.args.text.now (room s)
+put_labelled-next-requires c = let s = (goal.at.put_labelled-next-requires c).Start in rw c.from.ensures (room-front c.args.at (number s) (ascii "\n") c.args.text.now (room s))
 
 pub put_word-requires : goal.put_word-requires
-put_word-requires c = room_then c.put_labelled-next.ensures (ascii "\n") (room (goal.at.put_word-requires c).Start)
+put_word-requires c = room_then (rw c.from.ensures at c.put_labelled-next.ensures) (ascii "\n") (room (goal.at.put_word-requires c).Start)
 
 whole : (c : After-put_word) → Put c.args.at (refused_line c.args.number) c.args.text.now c.put_word.result c.put_word.new.text
 unfolding refused_line
-whole c = put_then c.put_labelled-next.ensures c.put_word.ensures
+whole c = put_then (rw c.from.ensures at c.put_labelled-next.ensures) c.put_word.ensures
 
 pub returns : goal.returns
 returns c = whole (goal.at.returns c).After-put_word

@@ -41,28 +41,28 @@ room-two s = room-front s.args.at (place s ++ first s) (last s) s.args.text.now 
 -- ---- what is put so far
 
 two : (c : After-put_labelled-next-2) → let s = (goal.at.After-put_labelled-next-2 c).Start in Put c.args.at (place s ++ first s) c.args.text.now c.put_labelled-next-2.result c.put_labelled-next-2.new.text
-two c = put_then c.put_labelled-next.ensures c.put_labelled-next-2.ensures
+two c = put_then (rw c.from.ensures at c.put_labelled-next.ensures) (rw c.from-2.ensures at c.put_labelled-next-2.ensures)
 
 three : (c : After-put_labelled-next-3) → let s = (goal.at.After-put_labelled-next-3 c).Start in Put c.args.at (place s ++ first s ++ last s) c.args.text.now c.put_labelled-next-3.result c.put_labelled-next-3.new.text
-three c = put_then (two (goal.at.After-put_labelled-next-3 c).After-put_labelled-next-2) c.put_labelled-next-3.ensures
+three c = put_then (two (goal.at.After-put_labelled-next-3 c).After-put_labelled-next-2) (rw c.from-3.ensures at c.put_labelled-next-3.ensures)
 
 whole : (c : After-put_labelled) → Put c.args.at (span_text c.args.place c.args.first c.args.last c.args.count) c.args.text.now c.put_labelled.result c.put_labelled.new.text
 unfolding span_text
-whole c = put_then (three (goal.at.After-put_labelled c).After-put_labelled-next-3) c.put_labelled.ensures
+whole c = put_then (three (goal.at.After-put_labelled c).After-put_labelled-next-3) (rw c.from-4.ensures at c.put_labelled.ensures)
 
 -- ---- the goals
 
 pub put_labelled-next-requires : goal.put_labelled-next-requires
-put_labelled-next-requires c = let s = (goal.at.put_labelled-next-requires c).Start in room-front c.args.at (place s) (first s) c.args.text.now (room-two s)
+put_labelled-next-requires c = let s = (goal.at.put_labelled-next-requires c).Start in rw c.from.ensures (room-front c.args.at (place s) (first s) c.args.text.now (room-two s))
 
 pub put_labelled-next-requires-2 : goal.put_labelled-next-requires-2
-put_labelled-next-requires-2 c = let s = (goal.at.put_labelled-next-requires-2 c).Start in room_then c.put_labelled-next.ensures (first s) (room-two s)
+put_labelled-next-requires-2 c = let s = (goal.at.put_labelled-next-requires-2 c).Start in rw c.from-2.ensures (room_then (rw c.from.ensures at c.put_labelled-next.ensures) (first s) (room-two s))
 
 pub put_labelled-next-requires-3 : goal.put_labelled-next-requires-3
-put_labelled-next-requires-3 c = let s = (goal.at.put_labelled-next-requires-3 c).Start in room_then (two (goal.at.put_labelled-next-requires-3 c).After-put_labelled-next-2) (last s) (room-three s)
+put_labelled-next-requires-3 c = let s = (goal.at.put_labelled-next-requires-3 c).Start in rw c.from-3.ensures (room_then (two (goal.at.put_labelled-next-requires-3 c).After-put_labelled-next-2) (last s) (room-three s))
 
 pub put_labelled-requires : goal.put_labelled-requires
-put_labelled-requires c = let s = (goal.at.put_labelled-requires c).Start in room_then (three (goal.at.put_labelled-requires c).After-put_labelled-next-3) (count s) (room s)
+put_labelled-requires c = let s = (goal.at.put_labelled-requires c).Start in rw c.from-4.ensures (room_then (three (goal.at.put_labelled-requires c).After-put_labelled-next-3) (count s) (room s))
 
 pub returns : goal.returns
 returns c = let done = whole (goal.at.returns c).After-put_labelled in (done, omega (arith, done.next_is, short (goal.at.returns c).Start))
