@@ -1,7 +1,7 @@
 -- From what the steps of Add find to what Add promises.
 --
 --     last-time                    a head's last time, off the addresses and times
---     short_add, add_as_decided    the answer of Add's rows: where a list is too short, and else as `decide` finds it
+--     short_add, add_as_decided    the answer of Add's rows: where a list is too short, and of them all as `decide` finds it
 --     decided_refuses, decided_accepts   so from what `decide` told
 --     all-numbered                 no row of Add has the number 0
 --     room-left                    where a range is accepted, all four lists have a next place
@@ -20,7 +20,7 @@ use Rattle.definitions.specs.Panels.{Places, Panel, taken, on_panel, head_ranges
 use Rattle.definitions.specs.PanelCalls.{room_of, panel_rows, add_rows, put_at, added, add_call}
 use Rattle.definitions.specs.declared.entries.Entry.{Entry}
 use Rattle.definitions.specs.declared.refusals.Refusal.{Refusal}
-use Rattle.trial_laws.specs.Rows.{Numbered, Numbered-append, Only, only-first, refusal-above, refusal-zero, first_row-append, first_row-accepted, row-passes, refused_not_accepted}
+use Rattle.trial_laws.specs.Rows.{Numbered, Numbered-append, Only, only-first, refusal-above, refusal-zero, first_row-append, first_row-accepted, refused_not_accepted}
 use Rattle.trial_laws.specs.CallLaws.{then-known, bind-refused, accepted-is, refusal-tells}
 use Rattle.trial_laws.specs.RefusalNumbers.{InTable, answer_with, with_number}
 use Rattle.trial_laws.specs.ListTrial.{range-numbered}
@@ -55,30 +55,29 @@ pub short_add : (es : List Entry) (p : Places) (a : ℕ) (r : Range) (n : ℕ) �
 unfolding add_rows panel_rows not_panel
 short_add es p a r n e = stops (room_rows (room_of p)) (first_rows es p.addresses a ++ (own_rows (panel es p) a r ++ (13 if crowded a es ∷ []))) n e
 
-pub add_as_decided : (es : List Entry) (p : Places) (a : ℕ) (r : Range) → too_short panel_room (room_of p) ≡ false → firstRow (first_rows es p.addresses a ++ later_rows es p.addresses p.times a r) ≡ try_add (panel es p) a r
+pub add_as_decided : (es : List Entry) (p : Places) (a : ℕ) (r : Range) → firstRow ((room_rows (room_of p) ++ first_rows es p.addresses a) ++ later_rows es p.addresses p.times a r) ≡ try_add (panel es p) a r
 unfolding add_rows panel_rows not_panel on_panel later_rows
-add_as_decided es p a r long =
-    let rows = first_rows es p.addresses a in
+add_as_decided es p a r =
+    let rows = room_rows (room_of p) ++ first_rows es p.addresses a in
     let plain = range_rows (time_before (least_from a 0 (take (total_held es) p.addresses) (take (total_held es) p.times))) r ++ (13 if crowded a es ∷ []) in
     let scoped = range_rows (last_time none (head_ranges a (taken (total_held es) p))) r ++ (13 if crowded a es ∷ []) in
     first_row-append rows plain
-    ∙ then-known (firstRow rows) (λ ok. firstRow plain) (λ ok. firstRow scoped) (λ ok e. let h = (first_row-accepted rows).0 e in ap (λ before. firstRow (range_rows before r ++ (13 if crowded a es ∷ []))) (last-time es p a long h.0))
+    ∙ then-known (firstRow rows) (λ ok. firstRow plain) (λ ok. firstRow scoped) (λ ok e. let h = (first_row-accepted rows).0 e in ap (λ before. firstRow (range_rows before r ++ (13 if crowded a es ∷ []))) (last-time es p a h.0 h.1.0))
     ∙ sym (first_row-append rows scoped)
-    ∙ sym (row-passes 8 (rows ++ scoped) long)
 
 -- the same of what `decide` told
-pub decided_refuses : (es : List Entry) (p : Places) (a : ℕ) (r : Range) (n : ℕ) → too_short panel_room (room_of p) ≡ false → ◌≡◌ {A = Answer Decision} (refused n) (firstRow (first_rows es p.addresses a ++ later_rows es p.addresses p.times a r) >>= λ ok. accepted (decision_of es a)) → try_add (panel es p) a r ≡ refused n
-decided_refuses es p a r n long e = sym (add_as_decided es p a r long) ∙ bind-refused (firstRow (first_rows es p.addresses a ++ later_rows es p.addresses p.times a r)) (λ ok. decision_of es a) n (sym e)
+pub decided_refuses : (es : List Entry) (p : Places) (a : ℕ) (r : Range) (n : ℕ) → ◌≡◌ {A = Answer Decision} (refused n) (firstRow ((room_rows (room_of p) ++ first_rows es p.addresses a) ++ later_rows es p.addresses p.times a r) >>= λ ok. accepted (decision_of es a)) → try_add (panel es p) a r ≡ refused n
+decided_refuses es p a r n e = sym (add_as_decided es p a r) ∙ bind-refused (firstRow ((room_rows (room_of p) ++ first_rows es p.addresses a) ++ later_rows es p.addresses p.times a r)) (λ ok. decision_of es a) n (sym e)
 
 accepts-both : {A : Type 0} (x : Answer Unit) (d d' : A) → accepted d' ≡ (x >>= λ ok. accepted d) → (x ≡ accepted tt) × (d' ≡ d)
 unfolding ◌>>=◌
 accepts-both (refused n) d d' e = refused_not_accepted (sym e)
 accepts-both (accepted u) d d' e = (refl, accepted-is e)
 
-pub decided_accepts : (es : List Entry) (p : Places) (a : ℕ) (r : Range) (d : Decision) → too_short panel_room (room_of p) ≡ false → accepted d ≡ (firstRow (first_rows es p.addresses a ++ later_rows es p.addresses p.times a r) >>= λ ok. accepted (decision_of es a)) → (try_add (panel es p) a r ≡ accepted tt) × (d ≡ decision_of es a)
-decided_accepts es p a r d long e =
-    let h = accepts-both (firstRow (first_rows es p.addresses a ++ later_rows es p.addresses p.times a r)) (decision_of es a) d e in
-    (sym (add_as_decided es p a r long) ∙ h.0, h.1)
+pub decided_accepts : (es : List Entry) (p : Places) (a : ℕ) (r : Range) (d : Decision) → accepted d ≡ (firstRow ((room_rows (room_of p) ++ first_rows es p.addresses a) ++ later_rows es p.addresses p.times a r) >>= λ ok. accepted (decision_of es a)) → (try_add (panel es p) a r ≡ accepted tt) × (d ≡ decision_of es a)
+decided_accepts es p a r d e =
+    let h = accepts-both (firstRow ((room_rows (room_of p) ++ first_rows es p.addresses a) ++ later_rows es p.addresses p.times a r)) (decision_of es a) d e in
+    (sym (add_as_decided es p a r) ∙ h.0, h.1)
 
 pub all-numbered : (s : Panel) (a : ℕ) (r : Range) → Numbered (add_rows s a r)
 unfolding add_rows panel_rows

@@ -26,7 +26,7 @@ use Rattle.panel.specs.Copies.{SameLengths, Copied, put_from, values_of, put_all
 abbrev panel : List Entry → Places → Panel
 panel es p = record { entries = es; places = p }
 
--- the code tries 8 by itself, and then 14 and 12
+-- 8 of all seven lists, and then 14 and 12
 abbrev pub rows_of : List Entry → Places → ℕ → List ℕ → List Row
 rows_of es p a room = room_rows (room_of p ++ room) ++ first_rows es p.addresses a
 

@@ -1,17 +1,19 @@
 // One panel, many heads: Add and Head ranges.
 #![tactic(auto)]
 
+pub mod entries; // entries.rt: the lent list of entries, one for each detector
 pub mod lists; // lists.rt: one head's ranges, copied into lent lists
 pub mod places; // places.rt: a range put at a place
 
 ghost use Rattle.std.specs.Prelude.{◌≡◌};
 ghost use Rattle.panel.specs.Promises.{AddPromise, HeadRangesPromise};
 
+use crate::entries::set_held;
 use crate::lists::copy_head;
 use crate::places::put_range;
 use definitions::entries::Entry;
 use definitions::refusals::Refusal;
-use panel_trial::decisions::{decide, try_panel, try_room};
+use panel_trial::decisions::{decide, try_panel};
 use panel_trial::tallies::total_of;
 
 // Tries a range of a head, and adds it to the panel if nothing turns it down.
@@ -29,11 +31,12 @@ pub fn add(
     ensures { AddPromise (record { entries = entries.entry.now; places = record { addresses = addresses.entry.now; times = times.old; lows = lows.old; highs = highs.old } }) address (record { time = time; low = low; high = high }) result (record { entries = entries.exit.now; places = record { addresses = addresses.exit.now; times = times.new; lows = lows.new; highs = highs.new } }) }
 {
     let lengths = [addresses.len(), times.len(), lows.len(), highs.len()];
-    try_room(&lengths)?;
-    let decision = decide(entries, addresses, times, address, time, low, high)?;
+    let decision = decide(
+        &lengths, entries, addresses, times, address, time, low, high,
+    )?;
     let at = decision.place;
     put_range(addresses, times, lows, highs, at, address, time, low, high);
-    entries[decision.at].held = decision.held;
+    set_held(entries, decision.at, decision.held);
     Ok(())
 }
 
@@ -60,8 +63,7 @@ pub fn head_ranges(
         into_lows.len(),
         into_highs.len(),
     ];
-    try_room(&lengths)?;
-    try_panel(entries, addresses, address)?;
+    try_panel(&lengths, entries, addresses, address)?;
     let total = total_of(entries) as usize;
     let count = copy_head(
         &addresses[..total],

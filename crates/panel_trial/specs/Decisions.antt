@@ -2,10 +2,10 @@
 --
 --     RoomFor                  addresses and times that have room
 --     room_rows, first_rows    8, and 14 and 12, with which both calls on a panel begin
---     Tried                    the answer for a panel and an address: the first of the latter two, or the place of the address's entry
+--     Tried                    the answer for lists of some lengths, a panel and an address: the first of these, or the place of the address's entry
 --     later_rows               4, 5, 6 and 13, with the head's last time read off the addresses and times
 --     decision_of              where an accepted range goes, and what its head then holds
---     Decided                  the answer for a range: the first of these rows from 14 on, or this
+--     Decided                  the answer for a range: the first of all these rows, from 8 on, or this
 --
 -- Assumes nothing.
 use Rattle.std.specs.Prelude.{ℕ, ◌+◌, ◌≤◌, ◌≡◌, List, [], ◌∷◌, ◌++◌, Result, length, take}
@@ -32,8 +32,8 @@ room_rows lengths = 8 if too_short panel_room lengths ∷ []
 abbrev pub first_rows : List Entry → List ℕ → ℕ → List Row
 first_rows es bs a = 14 if bad_panel es (take (total_held es) bs) ∷ 12 if unknown a es ∷ []
 
-abbrev pub Tried : List Entry → List ℕ → ℕ → Result ℕ Refusal → Type 0
-Tried es bs a at = answered at ≡ (firstRow (first_rows es bs a) >>= λ ok. accepted (place_of a es))
+abbrev pub Tried : List ℕ → List Entry → List ℕ → ℕ → Result ℕ Refusal → Type 0
+Tried ls es bs a at = answered at ≡ (firstRow (room_rows ls ++ first_rows es bs a) >>= λ ok. accepted (place_of a es))
 
 unfoldable pub later_rows : List Entry → List ℕ → List ℕ → ℕ → Range → List Row
 later_rows es bs ts a r = range_rows (time_before (least_from a 0 (take (total_held es) bs) (take (total_held es) ts))) r ++ (13 if crowded a es ∷ [])
@@ -41,5 +41,5 @@ later_rows es bs ts a r = range_rows (time_before (least_from a 0 (take (total_h
 abbrev pub decision_of : List Entry → ℕ → Decision
 decision_of es a = record { at = place_of a es; held = held_by a es + 1; place = total_held es }
 
-abbrev pub Decided : List Entry → List ℕ → List ℕ → ℕ → Range → Result Decision Refusal → Type 0
-Decided es bs ts a r d = answered d ≡ (firstRow (first_rows es bs a ++ later_rows es bs ts a r) >>= λ ok. accepted (decision_of es a))
+abbrev pub Decided : List ℕ → List Entry → List ℕ → List ℕ → ℕ → Range → Result Decision Refusal → Type 0
+Decided ls es bs ts a r d = answered d ≡ (firstRow ((room_rows ls ++ first_rows es bs a) ++ later_rows es bs ts a r) >>= λ ok. accepted (decision_of es a))

@@ -1,12 +1,13 @@
 // What becomes of a range for a panel, on its entries and the addresses and times in its places.
-ghost use Rattle.std.specs.Prelude.{◌≡◌, ◌≤◌, length};
+ghost use Rattle.std.specs.Prelude.{◌≡◌, ◌≤◌, false, length};
 ghost use Rattle.definitions.specs.Answers.{firstRow};
 ghost use Rattle.definitions.specs.Refusals.{answered};
 ghost use Rattle.definitions.specs.Spans.{panel_room};
+ghost use Rattle.definitions.specs.Trial.{too_short};
 ghost use Rattle.panel_trial.specs.Decisions.{RoomFor, Decided, Tried, room_rows};
 
 use crate::heads::panel_bad;
-use crate::tallies::{common_of, least_time, place_of, total_of};
+use crate::tallies::{common_of, head_place, least_time, total_of};
 use definitions::entries::Entry;
 use definitions::limits::{COMMON_PLACES, PANEL_ROOM, SURE_PLACES};
 use definitions::refusals::Refusal;
@@ -30,19 +31,26 @@ pub fn try_room(lengths: &[usize]) -> Result<(), Refusal>
     Ok(())
 }
 
-// The panel with an address: 14, 12, else the place of the address's entry.
-pub fn try_panel(entries: &[Entry], addresses: &[u32], address: u32) -> Result<usize, Refusal>
-    requires { panel_room ≤ length addresses.now }
-    ensures { Tried entries.now addresses.now address result }
+// The panel with an address, among lists of these lengths: 8, 14, 12, else the place of the address's entry.
+pub fn try_panel(
+    lengths: &[usize],
+    entries: &[Entry],
+    addresses: &[u32],
+    address: u32,
+) -> Result<usize, Refusal>
+    requires { too_short panel_room lengths.now ≡ false → panel_room ≤ length addresses.now }
+    ensures { Tried lengths.now entries.now addresses.now address result }
 {
+    try_room(lengths)?;
     if panel_bad(entries, addresses) {
         return Err(Refusal::NotAPanel);
     }
-    place_of(entries, address).ok_or(Refusal::AddressUnknown)
+    head_place(entries, address).ok_or(Refusal::AddressUnknown)
 }
 
-// A range for the panel: 14, 12, then its own 4, 5, 6, then 13; else it is accepted.
+// A range for the panel, among lists of these lengths: 8, 14, 12, then its own 4, 5, 6, then 13; else it is accepted.
 pub fn decide(
+    lengths: &[usize],
     entries: &[Entry],
     addresses: &[u32],
     times: &[u32],
@@ -51,10 +59,10 @@ pub fn decide(
     low: i32,
     high: i32,
 ) -> Result<Decision, Refusal>
-    requires { RoomFor addresses.now times.now }
-    ensures { Decided entries.now addresses.now times.now address (record { time = time; low = low; high = high }) result }
+    requires { too_short panel_room lengths.now ≡ false → RoomFor addresses.now times.now }
+    ensures { Decided lengths.now entries.now addresses.now times.now address (record { time = time; low = low; high = high }) result }
 {
-    let at = try_panel(entries, addresses, address)?;
+    let at = try_panel(lengths, entries, addresses, address)?;
     let total = total_of(entries) as usize;
     let least = least_time(&addresses[..total], &times[..total], address);
     try_range(least, time, low, high)?;

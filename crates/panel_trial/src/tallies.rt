@@ -15,6 +15,14 @@ pub fn place_of(entries: &[Entry], address: u32) -> Option<usize>
     entries.iter().position(|e| e.address == address)
 }
 
+// The same among the heads of a panel, of which there are 64 at most.
+pub(crate) fn head_place(entries: &[Entry], address: u32) -> Option<usize>
+    requires { length entries.now ≤ most_heads }
+    ensures { result ≡ position (is_at address) entries.now }
+{
+    place_of(entries, address)
+}
+
 // The places held in all.
 #[tactic(auto, using(crate::specs::Chains::total_sum))]
 pub fn total_of(entries: &[Entry]) -> u64

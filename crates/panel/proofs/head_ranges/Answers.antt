@@ -1,5 +1,5 @@
 -- Proof of `panel::head_ranges`: the rows of Head ranges are tried in their order, and `copy_head` copies the head's ranges. Assumes nothing.
-use Rattle.std.proofs.Common.{ℕ, ◌≡◌, ◌++◌, List, arith, refl, sym, ◌∙◌, subst, length-take-le}
+use Rattle.std.proofs.Common.{ℕ, ◌≡◌, ◌++◌, List, arith, refl, sym, subst, length-take-le}
 use Rattle.std.proofs.lemmas.Result.{err_from_is_err_and}
 use Rattle.definitions.specs.Spans.{panel_room}
 use Rattle.definitions.specs.Answers.{accepted, firstRow}
@@ -8,15 +8,14 @@ use Rattle.definitions.specs.PanelCalls.{room_of}
 use Rattle.definitions.specs.Ranges.{Lists}
 use Rattle.definitions.specs.Refusals.{refusal_number}
 use Rattle.trial_laws.specs.CallLaws.{bind-refused}
-use Rattle.trial_laws.specs.Rows.{first_row-accepted}
 use Rattle.trial_laws.specs.ShortLists.{long-split}
 use Rattle.panel_laws.specs.OneMore.{place_of}
 use Rattle.panel_laws.specs.PanelRows.{roomy}
 use Rattle.panel_trial.specs.Decisions.{room_rows, first_rows}
-use Rattle.panel_trial.specs.DecisionLaws.{stops, passes_on, Found, found_where}
+use Rattle.panel_trial.specs.DecisionLaws.{Found, found_where}
 use Rattle.panel.specs.Promises.{lengths_of}
 use Rattle.panel.specs.HeadRangesLaws.{rows_of, ListRoom, list-room, same-lengths, not_listed, was-listed}
-use Rattle.panel.proofs.head_ranges.Goals.{Start, In_ok-try_room, In_ok-try_panel, After-total_of-total}
+use Rattle.panel.proofs.head_ranges.Goals.{Start, In_ok-try_panel, After-total_of-total}
 use Rattle.panel.proofs.head_ranges.Goals as goal
 
 abbrev lent : Start → Places
@@ -28,45 +27,30 @@ into c = record { times = c.args.into_times.now; lows = c.args.into_lows.now; hi
 abbrev room : Start → List ℕ
 room c = room_of (lent c) ++ lengths_of (into c)
 
-pub returns-in_err-try_room : goal.returns-in_err-try_room
-unfolding room_of lengths_of
-returns-in_err-try_room c =
-    let start = (goal.at.returns-in_err-try_room c).Start in
-    let p = err_from_is_err_and c.from_residual.result c.from_residual.ensures.1 in
-    let n = refusal_number c.in_err-try_room.field-0.0 in
-    not_listed c.args.entries.now (lent start) c.args.address (into start) c.from_residual.result n (rw (p.1, p.2) refl) (stops (room_rows (room start)) (first_rows c.args.entries.now c.args.addresses.now c.args.address) n (sym c.in_err-try_room.ensures))
-
--- past 8
-
-long : (c : In_ok-try_room) → firstRow (room_rows (room (goal.at.In_ok-try_room c).Start)) ≡ accepted tt
-unfolding room_of lengths_of
-long c = sym c.in_ok-try_room.ensures
-
 pub try_panel-requires : goal.try_panel-requires
-try_panel-requires c =
+unfolding room_of lengths_of
+try_panel-requires c = λ long.
     let start = (goal.at.try_panel-requires c).Start in
-    let h = (first_row-accepted (room_rows (room start))).0 (long (goal.at.try_panel-requires c).In_ok-try_room) in
-    (roomy (lent start) (long-split panel_room (room_of (lent start)) (lengths_of (into start)) h.0).0).room_addresses
+    (roomy (lent start) (long-split panel_room (room_of (lent start)) (lengths_of (into start)) long).0).room_addresses
 
 pub returns-in_err-try_panel : goal.returns-in_err-try_panel
+unfolding room_of lengths_of
 returns-in_err-try_panel c =
     let start = (goal.at.returns-in_err-try_panel c).Start in
     let args = c.args in
-    let p = err_from_is_err_and c.from_residual-in_err-try_panel.result c.from_residual-in_err-try_panel.ensures.1 in
+    let p = err_from_is_err_and c.from_residual.result c.from_residual.ensures.1 in
     let n = refusal_number c.in_err-try_panel.field-0.0 in
-    let first = bind-refused (firstRow (first_rows args.entries.now args.addresses.now args.address)) (λ ok. place_of args.address args.entries.now) n (sym c.in_err-try_panel.ensures) in
-    let rows = passes_on (room_rows (room start)) (first_rows args.entries.now args.addresses.now args.address) (long (goal.at.returns-in_err-try_panel c).In_ok-try_room) ∙ first in
-    not_listed args.entries.now (lent start) args.address (into start) c.from_residual-in_err-try_panel.result n (rw (p.1, p.2) refl) rows
+    let rows = bind-refused (firstRow (room_rows (room start) ++ first_rows args.entries.now args.addresses.now args.address)) (λ ok. place_of args.address args.entries.now) n (sym c.in_err-try_panel.ensures) in
+    not_listed args.entries.now (lent start) args.address (into start) c.from_residual.result n (rw (p.1, p.2) refl) rows
 
--- past 14 and 12
+-- past 8, 14 and 12
 
-found : (c : In_ok-try_panel) → Found c.args.entries.now c.args.addresses.now c.args.address c.in_ok-try_panel.field-0
-found c = found_where c.args.entries.now c.args.addresses.now c.args.address c.in_ok-try_panel.field-0 c.in_ok-try_panel.ensures
+found : (c : In_ok-try_panel) → Found (room (goal.at.In_ok-try_panel c).Start) c.args.entries.now c.args.addresses.now c.args.address c.in_ok-try_panel.field-0
+unfolding room_of lengths_of
+found c = found_where (room (goal.at.In_ok-try_panel c).Start) c.args.entries.now c.args.addresses.now c.args.address c.in_ok-try_panel.field-0 c.in_ok-try_panel.ensures
 
 passed : (c : In_ok-try_panel) → let start = (goal.at.In_ok-try_panel c).Start in firstRow (rows_of c.args.entries.now (lent start) c.args.address (lengths_of (into start))) ≡ accepted tt
-passed c =
-    let start = (goal.at.In_ok-try_panel c).Start in
-    passes_on (room_rows (room start)) (first_rows c.args.entries.now c.args.addresses.now c.args.address) (long (goal.at.In_ok-try_panel c).In_ok-try_room) ∙ (found c).passed
+passed c = (found c).passed
 
 pub total_of-total-requires : goal.total_of-total-requires
 total_of-total-requires c = (found (goal.at.total_of-total-requires c).In_ok-try_panel).good.few

@@ -1,4 +1,4 @@
--- Proof of `panel_trial::decisions::decide`: the panel's rows, then the range's own, then 13. Assumes nothing.
+-- Proof of `panel_trial::decisions::decide`: 8 and the panel's rows, then the range's own, then 13. Assumes nothing.
 use Rattle.std.proofs.Common.{ℕ, ◌≡◌, ◌+◌, ◌<◌, ◌≤◌, List, length, take, get_or, arith, refl, sym, ap, ap₂, ◌∙◌, length-take-le, le-leb}
 use Rattle.std.specs.Prelude.{false, ◌&&◌, ◌++◌, leb}
 use Rattle.std.proofs.Math.Bool.{and-false}
@@ -17,7 +17,7 @@ use Rattle.panel_laws.specs.Entries.{no_entry}
 use Rattle.panel_laws.specs.OneMore.{place_of}
 use Rattle.panel_laws.specs.Tallies.{least_from}
 use Rattle.panel_laws.specs.PanelRows.{total-room}
-use Rattle.panel_trial.specs.Decisions.{first_rows, later_rows, decision_of}
+use Rattle.panel_trial.specs.Decisions.{RoomFor, room_rows, first_rows, later_rows, decision_of}
 use Rattle.panel_trial.specs.declared.decisions.Decision.{Decision}
 use Rattle.panel_trial.specs.DecisionLaws.{Found, found_where, place_inside, held_there, above_part, crowd_is, panel_refuses, range_refuses, crowd_refuses, lets_in, refused_as, accepted_as}
 use Rattle.panel_trial.specs.PassedRanges.{read_back}
@@ -28,20 +28,23 @@ abbrev range : Start → Range
 range c = record { time = c.args.time; low = c.args.low; high = c.args.high }
 
 abbrev decided : Start → Answer Unit
-decided c = firstRow (first_rows c.args.entries.now c.args.addresses.now c.args.address ++ later_rows c.args.entries.now c.args.addresses.now c.args.times.now c.args.address (range c))
+decided c = firstRow ((room_rows c.args.lengths.now ++ first_rows c.args.entries.now c.args.addresses.now c.args.address) ++ later_rows c.args.entries.now c.args.addresses.now c.args.times.now c.args.address (range c))
 
 pub returns-in_err-at : goal.returns-in_err-at
 returns-in_err-at c =
     let args = c.args in
     let p = err_from_is_err_and c.from_residual.result c.from_residual.ensures.1 in
     let n = refusal_number c.in_err-at.field-0.0 in
-    let first = bind-refused (firstRow (first_rows args.entries.now args.addresses.now args.address)) (λ ok. place_of args.address args.entries.now) n (sym c.in_err-at.ensures) in
-    rw (p.1, p.2) (refused_as (decided (goal.at.returns-in_err-at c).Start) _ n (panel_refuses args.entries.now args.addresses.now args.times.now args.address (range (goal.at.returns-in_err-at c).Start) n first))
+    let first = bind-refused (firstRow (room_rows args.lengths.now ++ first_rows args.entries.now args.addresses.now args.address)) (λ ok. place_of args.address args.entries.now) n (sym c.in_err-at.ensures) in
+    rw (p.1, p.2) (refused_as (decided (goal.at.returns-in_err-at c).Start) _ n (panel_refuses args.lengths.now args.entries.now args.addresses.now args.times.now args.address (range (goal.at.returns-in_err-at c).Start) n first))
 
--- past 14 and 12
+pub try_panel-requires : goal.try_panel-requires
+try_panel-requires c = λ long. (c.requires long).room_addresses
 
-found : (c : In_ok-at) → Found c.args.entries.now c.args.addresses.now c.args.address c.in_ok-at.at
-found c = found_where c.args.entries.now c.args.addresses.now c.args.address c.in_ok-at.at c.in_ok-at.ensures
+-- past 8, 14 and 12
+
+found : (c : In_ok-at) → Found c.args.lengths.now c.args.entries.now c.args.addresses.now c.args.address c.in_ok-at.at
+found c = found_where c.args.lengths.now c.args.entries.now c.args.addresses.now c.args.address c.in_ok-at.at c.in_ok-at.ensures
 
 pub total_of-total-requires : goal.total_of-total-requires
 total_of-total-requires c = (found (goal.at.total_of-total-requires c).In_ok-at).good.few
@@ -51,6 +54,9 @@ common_of-common-requires c = (found (goal.at.common_of-common-requires c).In_ok
 
 -- the places held are among those of a list that has room
 
+room : (c : In_ok-at) → RoomFor c.args.addresses.now c.args.times.now
+room c = (goal.at.In_ok-at c).Start.requires (found c).long
+
 long : (c : After-total_of-total) (xs : List ℕ) → 4096 ≤ length xs → length (take c.total_of-total.result xs) ≡ c.total_of-total.result
 long c xs room =
     let most = total-room c.args.entries.now _ (found (goal.at.After-total_of-total c).In_ok-at).good in
@@ -58,13 +64,13 @@ long c xs room =
     length-take-le _ xs (omega (arith, room, most, total))
 
 pub slice_bounds-least_time-end : goal.slice_bounds-least_time-end
-slice_bounds-least_time-end c = sym (long (goal.at.slice_bounds-least_time-end c).After-total_of-total c.args.addresses.now c.requires.room_addresses)
+slice_bounds-least_time-end c = sym (long (goal.at.slice_bounds-least_time-end c).After-total_of-total c.args.addresses.now (room (goal.at.slice_bounds-least_time-end c).In_ok-at).room_addresses)
 
 pub slice_bounds-least_time-end-2 : goal.slice_bounds-least_time-end-2
-slice_bounds-least_time-end-2 c = sym (long (goal.at.slice_bounds-least_time-end-2 c).After-total_of-total c.args.times.now c.requires.room_times)
+slice_bounds-least_time-end-2 c = sym (long (goal.at.slice_bounds-least_time-end-2 c).After-total_of-total c.args.times.now (room (goal.at.slice_bounds-least_time-end-2 c).In_ok-at).room_times)
 
 pub least_time-least-requires : goal.least_time-least-requires
-least_time-least-requires c = let at = (goal.at.least_time-least-requires c).After-total_of-total in long at c.args.times.now c.requires.room_times ∙ sym (long at c.args.addresses.now c.requires.room_addresses)
+least_time-least-requires c = let at = (goal.at.least_time-least-requires c).After-total_of-total in long at c.args.times.now (room (goal.at.least_time-least-requires c).In_ok-at).room_times ∙ sym (long at c.args.addresses.now (room (goal.at.least_time-least-requires c).In_ok-at).room_addresses)
 
 -- the range's own rows, as `try_range` told
 
@@ -81,7 +87,7 @@ returns-in_err-try_range c =
     let n = refusal_number c.in_err-try_range.field-0.0 in
     let start = (goal.at.returns-in_err-try_range c).Start in
     let own = sym (told (goal.at.returns-in_err-try_range c).After-try_range) ∙ ap answered c.in_err-try_range.was in
-    rw (p.1, p.2) (refused_as (decided start) _ n (range_refuses args.entries.now args.addresses.now args.times.now args.address (range start) (found (goal.at.returns-in_err-try_range c).In_ok-at).passed n own))
+    rw (p.1, p.2) (refused_as (decided start) _ n (range_refuses args.lengths.now args.entries.now args.addresses.now args.times.now args.address (range start) (found (goal.at.returns-in_err-try_range c).In_ok-at).passed n own))
 
 -- the entry's place is one of the entries
 
@@ -115,7 +121,7 @@ returns-then-common-ge-COMMON_PLACES c =
     let start = (goal.at.returns-then-common-ge-COMMON_PLACES c).Start in
     let d = (goal.at.returns-then-common-ge-COMMON_PLACES c).After-common_of-common in
     let full = crowd d ∙ ap₂ (λ s t. s && t) (le-leb 32 _ c.if-held-ge-SURE_PLACES.true) (le-leb 2048 _ c.if-common-ge-COMMON_PLACES.true) in
-    refused_as (decided start) _ 13 (crowd_refuses args.entries.now args.addresses.now args.times.now args.address (range start) (found (goal.at.returns-then-common-ge-COMMON_PLACES c).In_ok-at).passed (own d) full)
+    refused_as (decided start) _ 13 (crowd_refuses args.lengths.now args.entries.now args.addresses.now args.times.now args.address (range start) (found (goal.at.returns-then-common-ge-COMMON_PLACES c).In_ok-at).passed (own d) full)
 
 decision-is : (a at place : ℕ) (es : List Entry) → at ≡ place_of a es → place ≡ total_held es → ◌≡◌ {A = Decision} (record { at = at; held = (get_or es at no_entry).held + 1; place = place }) (decision_of es a)
 decision-is a at place es e f = rw (e, ← held_there a es, f) refl
@@ -130,4 +136,4 @@ returns c =
     (λ w. ap (λ t. leb 32 (get_or args.entries.now c.in_ok-at.at no_entry).held && t) (lt-leb 2048 _ w.1) ∙ and-false _)
     (λ w. ap (λ s. s && leb 2048 c.common_of-common.result) (lt-leb 32 _ w))
     c.else-held-ge-SURE_PLACES.either in
-    accepted_as (decided start) (decision_of args.entries.now args.address) _ (lets_in args.entries.now args.addresses.now args.times.now args.address (range start) f.passed (own d) not-crowded) (decision-is args.address c.in_ok-at.at c.total_of-total.result args.entries.now f.at_is c.total_of-total.ensures)
+    accepted_as (decided start) (decision_of args.entries.now args.address) _ (lets_in args.lengths.now args.entries.now args.addresses.now args.times.now args.address (range start) f.passed (own d) not-crowded) (decision-is args.address c.in_ok-at.at c.total_of-total.result args.entries.now f.at_is c.total_of-total.ensures)

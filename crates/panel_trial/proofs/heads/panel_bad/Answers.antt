@@ -68,7 +68,7 @@ pub slice_bounds-miscounted-end : goal.slice_bounds-miscounted-end
 slice_bounds-miscounted-end c = sym (held-long (goal.at.slice_bounds-miscounted-end c).After-total_of-total)
 
 pub miscounted-requires : goal.miscounted-requires
-miscounted-requires c = let d = (goal.at.miscounted-requires c).After-total_of-total in let f = in-room d in let e = held-long d in (omega (arith, e, f), inside (goal.at.miscounted-requires c).Else-some_outside)
+miscounted-requires c = let d = (goal.at.miscounted-requires c).After-total_of-total in let f = in-room d in let e = held-long d in (omega arith, omega (arith, e, f), inside (goal.at.miscounted-requires c).Else-some_outside)
 
 pub returns : goal.returns
 returns c =

@@ -30,10 +30,10 @@ stands k es found t less is e =
     twice_from k es less ∙ ap (λ (b : Bool). b || twice (drop (suc k) es)) here
 
 pub returns-then-is_some : goal.returns-then-is_some
-returns-then-is_some c = sym (c.loop-k.invariant ∙ stands c.loop-k.k c.args.entries.now c.place_of.result true c.loop-k-test.true c.place_of.ensures (sym c.is_some.ensures ∙ c.if-is_some.true))
+returns-then-is_some c = sym (c.loop-k.invariant ∙ stands c.loop-k.k c.args.entries.now c.head_place.result true c.loop-k-test.true c.head_place.ensures (sym c.is_some.ensures ∙ c.if-is_some.true))
 
 pub loop-k-preserved : goal.loop-k-preserved
-loop-k-preserved c = c.loop-k.invariant ∙ stands c.loop-k.k c.args.entries.now c.place_of.result false c.loop-k-test.true c.place_of.ensures (sym c.is_some.ensures ∙ c.if-is_some.false) ∙ ap (λ i. twice (drop i c.args.entries.now)) (sym (add-one c.loop-k.k))
+loop-k-preserved c = c.loop-k.invariant ∙ stands c.loop-k.k c.args.entries.now c.head_place.result false c.loop-k-test.true c.head_place.ensures (sym c.is_some.ensures ∙ c.if-is_some.false) ∙ ap (λ i. twice (drop i c.args.entries.now)) (sym (add-one c.loop-k.k))
 
 pub returns : goal.returns
 unfolding twice
