@@ -43,8 +43,8 @@ pub extern "C" fn humoraki_write(
 ) -> u8
     ensures { AfterWrite (record { address = address; service = record { level = level; direction = direction; step = step } }) (record { times = times.entry.now; lows = lows.now; highs = highs.now }) (record { file = file.entry.now; count = count.old }) (record { file = file.exit.now; count = count.new }) result }
 {
-    let answer = trace::write(address, level, direction, step, times, lows, highs, file);
-    answer_numbers::tell_count(answer, count)
+    let written = trace::write(address, level, direction, step, times, lows, highs, file);
+    answer_numbers::tell_count(written, count)
 }
 
 // The segments of a trace, and their count.
@@ -71,7 +71,7 @@ pub extern "C" fn humoraki_segment(
 ) -> u8
     ensures { AfterSegment (record { level = level; direction = direction; step = step }) (record { times = times.entry.now; lows = lows.now; highs = highs.now }) (record { columns = columns first_times.old last_times.old counts.old slow_ps.old slow_qs.old slow_ds.old fast_ps.old fast_qs.old fast_ds.old somes.old alls.old; count = count.old }) (record { columns = columns first_times.new last_times.new counts.new slow_ps.new slow_qs.new slow_ds.new fast_ps.new fast_qs.new fast_ds.new somes.new alls.new; count = count.new }) result }
 {
-    let answer = drift::segment(
+    let segmented = drift::segment(
         level,
         direction,
         step,
@@ -90,7 +90,7 @@ pub extern "C" fn humoraki_segment(
         somes,
         alls,
     );
-    answer_numbers::tell_count(answer, count)
+    answer_numbers::tell_count(segmented, count)
 }
 
 // The corners of the fit of the segment then running after the first k ranges, and their count, which is 0 where the fit is open.
@@ -177,8 +177,8 @@ pub extern "C" fn humoraki_latest(
 pub extern "C" fn humoraki_report(file: &[u8], text: &mut [u8], count: &mut usize) -> u8
     ensures { AfterReport file.now (record { text = text.entry.now; count = count.old }) (record { text = text.exit.now; count = count.new }) result }
 {
-    let answer = report_text::report(file, text);
-    answer_numbers::tell_count(answer, count)
+    let reported = report_text::report(file, text);
+    answer_numbers::tell_count(reported, count)
 }
 
 // One range more of one head, on a panel of many.
@@ -218,8 +218,8 @@ pub extern "C" fn humoraki_head_ranges(
 ) -> u8
     ensures { AfterHeadRanges (record { entries = entries.entry.now; places = record { addresses = addresses.entry.now; times = times.entry.now; lows = lows.now; highs = highs.now } }) address (record { lists = record { times = into_times.old; lows = into_lows.old; highs = into_highs.old }; count = count.old }) (record { lists = record { times = into_times.new; lows = into_lows.new; highs = into_highs.new }; count = count.new }) result }
 {
-    let answer = panel::head_ranges(
+    let listed = panel::head_ranges(
         entries, addresses, times, lows, highs, address, into_times, into_lows, into_highs,
     );
-    answer_numbers::tell_count(answer, count)
+    answer_numbers::tell_count(listed, count)
 }

@@ -2,14 +2,14 @@
 use Rattle.report_text.specs.ReportPromise.{report_meaning}
 use Rattle.humoraki.specs.Promises.{ReportLent}
 use Rattle.humoraki.specs.PromiseLaws.{after-report}
-use Rattle.humoraki.proofs.humoraki_report.Goals.{After-report-answer, After-tell_count, Start}
+use Rattle.humoraki.proofs.humoraki_report.Goals.{After-report-reported, After-tell_count, Start}
 use Rattle.humoraki.proofs.humoraki_report.Goals as goal
 
-abbrev called : After-tell_count → After-report-answer
-called c = (goal.at.After-tell_count c).After-report-answer
+abbrev called : After-tell_count → After-report-reported
+called c = (goal.at.After-tell_count c).After-report-reported
 
-abbrev entry : After-report-answer → Start
-entry c = (goal.at.After-report-answer c).Start
+abbrev entry : After-report-reported → Start
+entry c = (goal.at.After-report-reported c).Start
 
 abbrev lent : Start → ReportLent
 lent c = record { text = c.args.text.now; count = c.args.count.now }
@@ -18,4 +18,4 @@ pub returns : goal.returns
 unfolding report_meaning
 returns c =
     let start = entry (called c) in
-    after-report start.args.file.now (lent start) (record { text = (called c).report-answer.new.text; count = c.tell_count.new.count }) (called c).report-answer.ensures c.tell_count.ensures
+    after-report start.args.file.now (lent start) (record { text = (called c).report-reported.new.text; count = c.tell_count.new.count }) (called c).report-reported.ensures c.tell_count.ensures

@@ -6,14 +6,14 @@ use Rattle.definitions.specs.Headers.{Header}
 use Rattle.trace.specs.Promises.{WritePromise, write_meaning}
 use Rattle.humoraki.specs.Promises.{WriteLent}
 use Rattle.humoraki.specs.PromiseLaws.{after_write}
-use Rattle.humoraki.proofs.humoraki_write.Goals.{After-tell_count, After-write-answer, Start}
+use Rattle.humoraki.proofs.humoraki_write.Goals.{After-tell_count, After-write-written, Start}
 use Rattle.humoraki.proofs.humoraki_write.Goals as goal
 
-abbrev called : After-tell_count → After-write-answer
-called c = (goal.at.After-tell_count c).After-write-answer
+abbrev called : After-tell_count → After-write-written
+called c = (goal.at.After-tell_count c).After-write-written
 
-abbrev entry : After-write-answer → Start
-entry c = (goal.at.After-write-answer c).Start
+abbrev entry : After-write-written → Start
+entry c = (goal.at.After-write-written c).Start
 
 abbrev header : Start → Header
 header c = record { address = c.args.address; service = record { level = c.args.level; direction = c.args.direction; step = c.args.step } }
@@ -26,13 +26,13 @@ lent c = record { file = c.args.file.now; count = c.args.count.now }
 
 -- the level is passed on as bits
 
-promise : (c : After-write-answer) → WritePromise (header (entry c)) (lists (entry c)) (lent (entry c)).file c.write-answer.new.file c.write-answer.result
+promise : (c : After-write-written) → WritePromise (header (entry c)) (lists (entry c)) (lent (entry c)).file c.write-written.new.file c.write-written.result
 promise c =
     let s = entry c in
-    subst (λ level. WritePromise (record { address = s.args.address; service = record { level = level; direction = s.args.direction; step = s.args.step } }) (lists s) (lent s).file c.write-answer.new.file c.write-answer.result) (to_z-of_z s.ranges.level) c.write-answer.ensures
+    subst (λ level. WritePromise (record { address = s.args.address; service = record { level = level; direction = s.args.direction; step = s.args.step } }) (lists s) (lent s).file c.write-written.new.file c.write-written.result) (to_z-of_z s.ranges.level) c.write-written.ensures
 
 pub returns : goal.returns
 unfolding write_meaning
 returns c =
     let start = entry (called c) in
-    after_write (header start) (lists start) (lent start) (record { file = (called c).write-answer.new.file; count = c.tell_count.new.count }) (promise (called c)) c.tell_count.ensures
+    after_write (header start) (lists start) (lent start) (record { file = (called c).write-written.new.file; count = c.tell_count.new.count }) (promise (called c)) c.tell_count.ensures
