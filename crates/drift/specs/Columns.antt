@@ -7,7 +7,7 @@
 --     each, each-apply       a rule that always holds; a rule that follows from another, column by column
 --     row_at, row_is          the row at a place of the columns, and how it is known
 --     Room k cs, room-tested each column has k entries or more; no length is too short, so there is room
---     short-tested           whether a length is too short, as the slices are tested: three at a time
+--     short-tested           whether a length is too short, tested three at a time
 --     SameLengths old new    each column is as long as before
 --     Stored k n old new     the numbers n stand at k, and all else is as before
 --     Filled ns old new      the numbers ns stand first, one after the other, and past them all is as before

@@ -10,7 +10,7 @@
 --     turn-read                      what i64 computes of the slopes of two lines
 --     height-test                    a test of a line's height over a point
 --     joined-told                    a test of the line through two points against a third one
---     neg_d, bounded-mirrored   the mirror image of a line of the code, and that it is bounded too
+--     neg_d, negated-is, bounded-mirrored   the mirror image of a line of the code, how it is known by its three numbers, and that it is bounded too
 --
 -- Assumes nothing.
 use Rattle.std.specs.Prelude.{◌≡◌, Bool, [], ◌∷◌, ℕ, ◌<◌, ◌^◌, ℤ, pos, neg_ℤ, ◌-ℤ◌, ◌*ℤ◌}
@@ -109,6 +109,9 @@ joined-told n p q e = e ∙ ap₂ (λ X Y. le_z (pos 0) (gap (through X Y) (poin
 -- ---- the mirror image
 abbrev pub neg_d : Line → Line
 neg_d l = record { p = neg_ℤ l.p; q = neg_ℤ l.q; d = l.d }
+
+pub negated-is : (l : Line) {p q d : ℤ} → p ≡ neg_ℤ l.p → q ≡ neg_ℤ l.q → d ≡ l.d → ◌≡◌ {A = Line} (record { p = p; q = q; d = d }) (neg_d l)
+negated-is l a b c = λ i. record { p = a i; q = b i; d = c i }
 
 pub bounded-mirrored : {l : Line} → Bounded l → Bounded (neg_d l)
 bounded-mirrored s = record { p_in = in_neg s.p_in; q_in = in_neg s.q_in; d_in = s.d_in }

@@ -5,11 +5,11 @@
 --                                    that run ends at `end`, counted on from that place
 --     Going, going_start, going_more what code knows on the way
 --     gone_closed, gone-over         it stopped at a range that closes the run, or at n
---     some_none                      what is there is not missing
+--     some_none, true_false          what is there is not missing; a test does not both hold and fail
 --     RunReady                       what a run takes: one that has begun has a polygon, and room for what is to come; another has a range, and room for all
 --     TwoRoom, two_room              a second range, room for two in the chains, and a place after them that a number holds; so a run has that begins and is not single
 --     Opened                         where a run stands before it goes on: as it was handed on if it has begun, and else after its first two ranges
---     opened-begun, opened-fresh     how it got there
+--     opened-begun, opened-running, opened-fresh     how it got there: handed on, by the run over its first two ranges, or by the start at them
 --     SameRoom, same_room            both slices of a chain are as long as they were; so where its ends are
 --     GoReady, go_ready              from there on it can go on
 --     RunOn                          a run that has begun has gone on, another is the run from its first range
@@ -33,8 +33,8 @@ use Rattle.fit.specs.declared.run.LongReach.{LongReach}
 use Rattle.fit.specs.RangesByValue.{range_of}
 use Rattle.fit.specs.ChainsOfEnds.{chain_of}
 use Rattle.fit.specs.Polygons.{Shape}
-use Rattle.fit.specs.Joins.{JoinedAt}
-use Rattle.fit.specs.RunsFrom.{Closing, Running, running_more, RunFrom, run_closed, run_over, run_single}
+use Rattle.fit.specs.Joins.{JoinedAt, StartedAt}
+use Rattle.fit.specs.RunsFrom.{Closing, Running, running_start, running_more, RunFrom, run_closed, run_over, run_single}
 
 -- ---- over further ranges, which may stand in other slices than those before them
 abbrev pub SameFrom : Lists → ℕ → Lists → ℕ → ℕ → Type 0
@@ -124,13 +124,21 @@ pub record Opened (ls : Lists) (up₀ down₀ : Chain) (before : Option Polygon)
 pub some_none : {X : Type 0} {o : Option Polygon} {x : Polygon} → o ≡ Some x → o ≡ None → X
 some_none {X} {o} {x} e f = absurd (none-some x (sym f ∙ e))
 
+pub true_false : {X : Type 0} {b : Bool} → b ≡ true → b ≡ false → X
+true_false e f = let z : ◌≡◌ {A = ℕ} 0 1 = cc in absurd (omega arith)
+
 pub opened-begun : {ls : Lists} {up down : Chain} {before : Option Polygon} {from : ℕ} (x : Polygon) → before ≡ Some x → Opened ls up down before from up down (record { end = from; polygon = x })
 opened-begun {ls} {up} {down} {before} {from} x t =
     record { resumed = λ {x = y} e. (ap (λ w. record { end = from; polygon = w }) (same_Some x y (sym t ∙ e)), refl, refl); fresh = λ f. some_none t f }
 
-pub opened-fresh : {ls : Lists} {up₀ down₀ : Chain} {before : Option Polygon} (from : ℕ) → before ≡ None → {up down : Chain} {x : Polygon} → Running ls up down from (from + 2) x
+pub opened-running : {ls : Lists} {up₀ down₀ : Chain} {before : Option Polygon} (from : ℕ) → before ≡ None → {up down : Chain} {x : Polygon} → Running ls up down from (from + 2) x
     → Opened ls up₀ down₀ before from up down (record { end = from + 2; polygon = x })
-opened-fresh from f z = record { resumed = λ t. some_none t f; fresh = λ _. (refl, z) }
+opened-running from f z = record { resumed = λ t. some_none t f; fresh = λ _. (refl, z) }
+
+pub opened-fresh : {ls : Lists} → AcceptedLists ls → {up₀ down₀ : Chain} {before : Option Polygon} (from : ℕ) → before ≡ None → from + 1 < length ls.times
+    → {up down : Chain} {r s : Range} {x : Polygon} → range_of r ≡ range_at ls from → range_of s ≡ range_at ls (from + 1) → StartedAt r s up down x
+    → Opened ls up₀ down₀ before from up down (record { end = from + 2; polygon = x })
+opened-fresh a from f h e g s = opened-running from f (running_start a from h e g s)
 
 pub record GoReady (up down : Chain) (n : ℕ) (r : LongReach) : Type 0 where
   pub within : r.end ≤ n

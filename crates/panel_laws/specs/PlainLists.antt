@@ -1,11 +1,12 @@
--- What the code computes on plain lists is what the definitions say of entries and ranges.
+-- What is computed on plain lists, of addresses and of what their heads hold, is what the definitions say of entries and ranges.
+-- The code computes on the entries themselves: its proofs use `hit`, `pass`, `time-plain` and `kept-length`, and the other laws stand for plain lists alone.
 --
 --     entries_of, entries-again          entries from their numbers; entries are made of their own
 --     addresses_of, held_of               the numbers of entries
---     Heads                             what the trial of a panel is handed
+--     Heads                             heads, as many numbers of what they hold, and a list with room
 --     hit, pass                         an `||` whose first test holds, or does not
 --     total-entries, common-entries, place-entries   the places held, the common places taken and the place of an address, from the entries' numbers
---     bad_plain, bad-plain               14 on plain lists, in the order in which the code tries it
+--     bad_plain, bad-plain               14 on plain lists of at most 64 heads, test by test
 --     time-plain                        a head's last time, from addresses and times alone
 --     found, missing, place_inside, holds_next   12, and what a head holds, from the place of its address
 --     crowd_full, crowd_own, crowd_left 13 from what the head holds and what is taken
@@ -36,7 +37,7 @@ entries_of [] hs = []
 entries_of (a ∷ bs) [] = []
 entries_of (a ∷ bs) (h ∷ hs) = record { address = a; held = h } ∷ entries_of bs hs
 
--- what the trial is handed: heads and what they hold, and a list with room
+-- heads and what they hold, 64 at most, and a list with room
 pub record Heads (heads held addresses : List ℕ) : Type 0 where
   pub same : length held ≡ length heads
   pub few : length heads ≤ most_heads
@@ -113,7 +114,7 @@ miscounted-plain xs [] hs = refl
 miscounted-plain xs (b ∷ bs) [] = refl
 miscounted-plain xs (b ∷ bs) (h ∷ hs) = ap (λ t. not (eqb h (occurrences b xs)) || t) (miscounted-plain xs bs hs)
 
--- the order in which the code tries a panel of at most 64 heads
+-- the tests of a panel of at most 64 heads, one after the other
 unfoldable pub bad_plain : List ℕ → List ℕ → List ℕ → Bool
 bad_plain bs hs xs = eqb (length bs) 0 || (twice_in bs || (any bad_address bs || (ltb 2048 (above_sure hs) || miscounted_in (take (sum_of hs) xs) bs hs)))
 

@@ -2,6 +2,7 @@ pub mod Conversions
 pub mod Fractions
 pub mod Floats
 pub mod BitLaws
+pub mod PatternLaws
 pub mod ProductLaws
 pub mod CastLaws
 pub mod ReadingLaws

@@ -4,10 +4,11 @@
 --     put_then, put-before   a piece just after another is one piece, and so is a byte just before a piece
 --     room-front, room_then  room for two pieces is room for the first, and after it for the second
 --     put_length             the text stays as long as it was
+--     FirstPut, first-none, first_next, first-all   the first bytes of a word: none, one more, and all
 --
 -- Assumes nothing.
-use Rattle.std.specs.Prelude.{ℕ, suc, ◌+◌, ◌≤◌, ◌<◌, ◌≡◌, refl, List, [], ◌∷◌, ◌++◌, length, set}
-use Rattle.std.proofs.Common.{sym, ap, ◌∙◌, arith, add-one, length-append}
+use Rattle.std.specs.Prelude.{ℕ, suc, ◌+◌, ◌≤◌, ◌<◌, ◌≡◌, refl, List, [], ◌∷◌, ◌++◌, length, get_or, set, take}
+use Rattle.std.proofs.Common.{sym, ap, ◌∙◌, arith, add-one, length-append, take-suc, take_all, length-take-le}
 use Rattle.std.proofs.lemmas.List.Edits.{sets}
 use Rattle.std.proofs.lemmas.List.{set_comm}
 use Rattle.fields.specs.Splices.{splice}
@@ -54,3 +55,27 @@ put-before {at} {next} {new} {old} {text} b put =
 
 pub room-front : (at : ℕ) (new more old : List ℕ) → Room at (new ++ more) old → Room at new old
 room-front at new more old h = omega (arith, h, length-append new more)
+
+-- ---- a word, byte by byte
+
+-- the first i bytes are put
+pub record FirstPut (at : ℕ) (word old : List ℕ) (i : ℕ) (text : List ℕ) : Type 0 where
+  pub some : i ≤ length word
+  pub put : Put at (take i word) old (at + i) text
+
+module _ (at : ℕ) (word old : List ℕ) (room : Room at word old) where
+  pub first-none : FirstPut at word old 0 old
+  first-none = record { some = omega arith; put = put-none at old (omega (arith, room)) }
+
+  pub first_next : (i : ℕ) (text : List ℕ) → i < length word → FirstPut at word old i text → FirstPut at word old (i + 1) (set text (at + i) (get_or word i 0))
+  first_next i text h first =
+      let one = put_one (at + i) (get_or word i 0) text (omega (arith, room, put_length first.put)) in
+      let more : take (i + 1) word ≡ take i word ++ (get_or word i 0 ∷ []) = ap (λ n. take n word) (add-one i) ∙ take-suc word i 0 h in
+      let long = length-take-le (i + 1) word (omega arith) in
+      record {
+        some = omega arith;
+        put = record { fits = omega (arith, room, long); next_is = omega (arith, long); text_is = (put_then first.put one).text_is ∙ ap (λ bs. splice at bs old) (sym more) };
+      }
+
+  pub first-all : (i : ℕ) (text : List ℕ) → length word ≤ i → FirstPut at word old i text → Put at word old (at + i) text
+  first-all i text h first = rw (take_all i word h) at first.put

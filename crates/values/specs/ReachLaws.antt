@@ -1,4 +1,4 @@
--- When a line rises to a level at a multiple of a step, by the tests that tell it. `turn` steps are the time `turn * step`.
+-- When a line rises to a level at a multiple of a step, by the tests that tell it; and the mirror image of a line, as i64 computes it. `turn` steps are the time `turn * step`.
 --
 --     computed_pace, pace_is, pace_sizes   p·step as it is computed; that this is what it is; the bounds of its parts
 --     reach-first                what is looked for from the first multiple on is looked for from the time on
@@ -10,22 +10,25 @@
 --     crossing_nonneg            it is not below 0, where the line is below at the first multiple
 --     crossing_in, crossing_time_in   where the multiple is a time, its number of steps is in the span of times, and so is the multiple
 --     crossing_at, crossing_late it does after so many steps, or never where that is past the last time
+--     is-falling                 a number of a direction that is not 0 stands for falling
 --     looked-ahead               the outlook of two lines, from the lines and times that a program has of them
+--     mirrored-by                the line with −p and −q, each as 0 − x, is the mirror image
 --
 -- Assumes nothing.
-use Rattle.std.specs.Prelude.{◌≡◌, [], ◌∷◌, ℕ, ◌*◌, ◌≤◌, ◌<◌, ℤ, nat_abs, ◌-ℤ◌, ◌*ℤ◌, ◌≤ℤ◌, ◌<ℤ◌}
+use Rattle.std.specs.Prelude.{◌≡◌, refl, [], ◌∷◌, ℕ, zero, suc, ◌*◌, ◌≤◌, ◌<◌, ℤ, nat_abs, ◌-ℤ◌, ◌*ℤ◌, ◌≤ℤ◌, ◌<ℤ◌}
 use Rattle.std.proofs.Common.{sym, ◌∙◌, subst, arith}
 use Rattle.std.proofs.Math.Path.{ap}
 use Rattle.std.proofs.Math.Option.{Option, map}
 use Rattle.std.proofs.Math.Nat as NatL
 use Rattle.std.proofs.Math.IntN.{pos}
+use Rattle.std.specs.Int.{w64}
 use Rattle.integers.specs.Parts.{ints}
 use Rattle.integers.specs.OrderLaws.{mul-pos}
 use Rattle.integers.specs.Quotes.{quotes}
 use Rattle.integers.specs.Certificates.{hyp, num, ◌⊠◌}
 use Rattle.integers.specs.Solve.{claims, certify! }
-use Rattle.integers.specs.Bounds.{Within, in_lit, in_up, in_nonneg}
-use Rattle.integers.specs.Machine.{Env, upto, ◌▹◌, end, machine_value!, reads}
+use Rattle.integers.specs.Bounds.{Within, in_lit, in_up, in_neg, in_nonneg}
+use Rattle.integers.specs.Machine.{Env, upto, ◌▹◌, end, machine_value!, reads, negated-is}
 use Rattle.integers.specs.Rounding.{ceil_div}
 use Rattle.integers.specs.Least.{IsLeast, nowhere, least_at, least-unique, least_iff, first_by_ends}
 use Rattle.integers.specs.Multiples.{from_turn, to_turn, first_multiple, to_turns}
@@ -34,7 +37,7 @@ use Rattle.integers.specs.Crossing.{crossing, reach_never}
 use Rattle.integers.proofs.Crossing.{crossing_after, reach_after, reach_too_late}
 use Rattle.definitions.specs.Spans.{most_time, most_step}
 use Rattle.definitions.specs.Times.{Time, none, at}
-use Rattle.definitions.specs.Services.{Direction, direction_of, Service}
+use Rattle.definitions.specs.Services.{Direction, falling, direction_of, Service}
 use Rattle.definitions.specs.Lines.{Line, reading}
 use Rattle.definitions.specs.Corners.{reduced}
 use Rattle.definitions.specs.Fit.{Reaches}
@@ -44,9 +47,9 @@ use Rattle.lines.proofs.OutlookTimes.{reach_time_least}
 use Rattle.lines.specs.RunOutlook.{leading, trailing}
 use Rattle.trial_laws.specs.Accepted.{GoodStep}
 use Rattle.values.specs.declared.Line.{Line as LineValue}
-use Rattle.values.specs.Signed.{as_i64}
+use Rattle.values.specs.Signed.{as_i64, read_back}
 use Rattle.values.specs.Small.{Small, most_slope}
-use Rattle.values.specs.Reach.{BelowAt, look_ahead}
+use Rattle.values.specs.Reach.{BelowAt, Mirrored, look_ahead}
 
 -- ---- p·step in 64 bits
 
@@ -137,8 +140,26 @@ module _ (l : Line) (level : ℤ) (step : ℕ) (over : 0 < step) (turn : ℕ) wh
 
 -- ---- two lines
 
+pub is-falling : (n : ℕ) → ¬ (n ≡ 0) → direction_of n ≡ falling
+unfolding direction_of
+is-falling zero other = absurd (other refl)
+is-falling (suc n) other = refl
+
 pub looked-ahead : (slow fast : Line) (v : Service) (last : ℕ) (e : Direction) → direction_of v.direction ≡ e → {k l : Line} {some all : Time} → k ≡ reduced slow → l ≡ reduced fast
     → some ≡ reach_time v last (leading e slow fast) → all ≡ reach_time v last (trailing e slow fast) → lines k l some all ≡ look_ahead slow fast v last
 looked-ahead slow fast v last e is slow_is fast_is some_is all_is =
     (λ i. lines (slow_is i) (fast_is i) (some_is i) (all_is i))
     ∙ sym (ap (λ d. lines (reduced slow) (reduced fast) (reach_time v last (leading d slow fast)) (reach_time v last (trailing d slow fast))) is)
+
+-- ---- the mirror image as i64 computes it
+
+pub mirrored-by : {l : LineValue} → Small l → Mirrored l (record { p = as_i64 (pos 0 -ℤ as_i64 l.p); q = as_i64 (pos 0 -ℤ as_i64 l.q); d = as_i64 l.d })
+mirrored-by {l} s =
+    let b = s.bounds in
+    let ep = negated-is w64 b.p_in tt in
+    let eq = negated-is w64 b.q_in tt in
+    let ed = read_back w64 b.d_in tt in
+    record {
+      is = λ i. record { p = ep i; q = eq i; d = ed i };
+      small = record { bounds = record { p_in = rw ep (in_neg b.p_in); q_in = rw eq (in_neg b.q_in); d_in = rw ed b.d_in }; d_above_0 = rw ed s.d_above_0 };
+    }

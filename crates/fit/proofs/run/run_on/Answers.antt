@@ -4,7 +4,7 @@ use Prim.Native.Nat.{◌-◌, ◌≤◌}
 use Rattle.std.proofs.Common.{None}
 use Rattle.drift_laws.specs.RangeEnds.{lent}
 use Rattle.fit.specs.ChainsOfEnds.{chain_of, room_of}
-use Rattle.fit.specs.RunsOn.{Opened, some_none, opened-begun, opened-fresh, go_ready, on_single, on_gone, same_room}
+use Rattle.fit.specs.RunsOn.{Opened, some_none, opened-begun, opened-running, go_ready, on_single, on_gone, same_room}
 use Rattle.fit.proofs.run.run_on.Goals.{Joined-before, in-Some, in-None+else-n-from-lt2}
 use Rattle.fit.proofs.run.run_on.Goals as goal
 
@@ -19,7 +19,7 @@ opened : (c : Joined-before) → Opened (lent c.args.times.now c.args.highs.now 
 opened c =
     elim c.match-before.branch [
       | in-Some w ↦ rw (w.up-is, w.down-is, w.next-is) (opened-begun w.in-Some.polygon w.in-Some.is)
-      | in-None+else-n-from-lt2 w ↦ rw (w.up-is, w.down-is, w.next-is) (opened-fresh c.args.from w.in-None.is w.first_two.ensures)
+      | in-None+else-n-from-lt2 w ↦ rw (w.up-is, w.down-is, w.next-is) (opened-running c.args.from w.in-None.is w.first_two.ensures)
     ]
 
 pub returns-then-n-from-lt2 : goal.returns-then-n-from-lt2

@@ -8,7 +8,7 @@ use Rattle.integers.specs.Machine.{◌▸◌, end, machine_linear!, tests}
 use Rattle.definitions.specs.Report.{decimal, signed_decimal, ascii}
 use Rattle.text.specs.Put.{Room, Put}
 use Rattle.text.specs.PutLaws.{put_then, room-front, room_then}
-use Rattle.text.specs.SignLaws.{not-below, below}
+use Rattle.text.specs.SignLaws.{from_zero-text, below_zero-text}
 use Rattle.text.proofs.I64Decimal.put.Goals.{After-unsigned_abs-size, Else-self-ge0, Then-self-ge0}
 use Rattle.text.proofs.I64Decimal.put.Goals as goal
 
@@ -18,7 +18,7 @@ size_is c = c.unsigned_abs-size.ensures.value ∙ ap nat_abs (to_z-of_z c.ranges
 -- ---- a number that is not below 0
 
 from_zero : (c : Then-self-ge0) → signed_decimal c.args.self ≡ decimal c.unsigned_abs-size.result
-from_zero c = not-below c.args.self (machine_linear! (c.ranges.self ▸ end) c.if-self-ge0.true (search tests depth 30) tt (omega arith)) ∙ ap decimal (sym (size_is (goal.at.Then-self-ge0 c).After-unsigned_abs-size))
+from_zero c = from_zero-text c.args.self (machine_linear! (c.ranges.self ▸ end) c.if-self-ge0.true (search tests depth 30) tt (omega arith)) ∙ ap decimal (sym (size_is (goal.at.Then-self-ge0 c).After-unsigned_abs-size))
 
 pub put-requires : goal.put-requires
 put-requires c = subst (λ bs. Room c.args.at bs c.args.text.now) (from_zero (goal.at.put-requires c).Then-self-ge0) c.requires
@@ -32,7 +32,7 @@ returns-then-self-ge0 c =
 
 under-zero : (c : Else-self-ge0) → signed_decimal c.args.self ≡ ascii "-" ++ decimal c.unsigned_abs-size.result
 under-zero c =
-    below c.args.self (machine_linear! (c.ranges.self ▸ end) c.if-self-ge0.false (search tests depth 30) tt (omega arith)) ∙ ap (λ k. ascii "-" ++ decimal k) (sym (size_is (goal.at.Else-self-ge0 c).After-unsigned_abs-size))
+    below_zero-text c.args.self (machine_linear! (c.ranges.self ▸ end) c.if-self-ge0.false (search tests depth 30) tt (omega arith)) ∙ ap (λ k. ascii "-" ++ decimal k) (sym (size_is (goal.at.Else-self-ge0 c).After-unsigned_abs-size))
 
 -- there is room for the sign and the digits
 signed-room : (c : Else-self-ge0) → Room c.args.at (ascii "-" ++ decimal c.unsigned_abs-size.result) c.args.text.now
