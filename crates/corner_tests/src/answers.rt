@@ -2,7 +2,6 @@
 use definitions::limits::CORNER_ROOM;
 use definitions::refusals::Refusal;
 use drift::corners;
-use std::io;
 use testing::lists::lent;
 use testing::telling::{Entry, Seen, mixed_signed};
 use values::Line;
@@ -26,43 +25,40 @@ impl Entry for Corner {
         mixed_signed(mixed_signed(mixed_signed(digest, p), q), d)
     }
 
-    fn tell(self, rt: &impl Print, _place: usize) -> io::Result<()> {
+    fn tell(self, rt: &impl Print, _place: usize) {
         let Line { p, q, d } = self.0;
-        print!(rt; " ({p}, {q}, {d})")
+        let _ = print!(rt; " ({p}, {q}, {d})");
     }
 }
 
 // Writes what the slices hold, place by place.
-fn see_all(rt: &impl Print, count: usize, ps: &[i64], qs: &[i64], ds: &[i64]) -> io::Result<Seen> {
+fn see_all(rt: &impl Print, count: usize, ps: &[i64], qs: &[i64], ds: &[i64]) -> Seen {
     let mut seen = Seen::nothing();
     for (place, ((&p, &q), &d)) in ps.iter().zip(qs).zip(ds).enumerate() {
-        seen.see(rt, Corner(Line { p, q, d }), place, count, SHOWN)?;
+        seen.see(rt, Corner(Line { p, q, d }), place, count, SHOWN);
     }
-    Ok(seen)
+    seen
 }
 
-fn tell_end(rt: &impl Print, answer: Result<Option<usize>, Refusal>, seen: Seen) -> io::Result<()> {
+fn tell_end(rt: &impl Print, answer: Result<Option<usize>, Refusal>, seen: Seen) {
     match answer {
         Ok(Some(count)) => {
-            print!(rt; " corners {count}, digest {}", seen.digest)?;
+            let _ = print!(rt; " corners {count}, digest {}", seen.digest);
         }
-        Ok(None) => print!(rt; " open")?,
-        Err(refusal) => print!(rt; " refused {}", u8::from(refusal))?,
+        Ok(None) => {
+            let _ = print!(rt; " open");
+        }
+        Err(refusal) => {
+            let _ = print!(rt; " refused {}", u8::from(refusal));
+        }
     }
-    println!(rt; ", rest {}", seen.rest())
+    let _ = println!(rt; ", rest {}", seen.rest());
 }
 
 // Calls Corners, and writes all there is to its answer on a line. The slices are as long as they have to be, but for
 // one of them, counted from 0, that is one too short; from 3 on, none is.
-pub fn tell(
-    rt: &impl Print,
-    short: usize,
-    k: usize,
-    times: &[u32],
-    lows: &[i32],
-    highs: &[i32],
-) -> io::Result<()> {
-    print!(rt; "after {k}:")?;
+pub fn tell(rt: &impl Print, short: usize, k: usize, times: &[u32], lows: &[i32], highs: &[i32]) {
+    let _ = print!(rt; "after {k}:");
     let Line { p, q, d } = Corner::OLD.0;
     let mut ps = [p; CORNER_ROOM];
     let mut qs = [q; CORNER_ROOM];
@@ -76,6 +72,6 @@ pub fn tell(
         lent(&mut qs, short == 1),
         lent(&mut ds, short == 2),
     );
-    let seen = see_all(rt, answer.ok().flatten().unwrap_or(0), &ps, &qs, &ds)?;
-    tell_end(rt, answer, seen)
+    let seen = see_all(rt, answer.ok().flatten().unwrap_or(0), &ps, &qs, &ds);
+    tell_end(rt, answer, seen);
 }

@@ -1,7 +1,6 @@
 // The sample, and each change of one byte in a table.
 use definitions::limits::READ_ROOM;
 use fields::numbers::write_u8;
-use std::io;
 use testing::lists::entry_or;
 use trace_testing::making::put_sample;
 use trace_testing::reading::tell_read;
@@ -40,11 +39,10 @@ const TABLE: [(u8, u8); 29] = [
 ];
 
 // The first six ranges of lists.
-fn tell_ranges(rt: &impl Print, times: &[u32], lows: &[i32], highs: &[i32]) -> io::Result<()> {
+fn tell_ranges(rt: &impl Print, times: &[u32], lows: &[i32], highs: &[i32]) {
     for ((time, low), high) in times.iter().zip(lows).zip(highs).take(6) {
-        println!(rt; "  range {time} {low} {high}")?;
+        let _ = println!(rt; "  range {time} {low} {high}");
     }
-    Ok(())
 }
 
 // Reads the sample with x at `at`.
@@ -55,27 +53,26 @@ fn read_changed(
     times: &mut [u32],
     lows: &mut [i32],
     highs: &mut [i32],
-) -> io::Result<()> {
+) {
     let mut file = [0u8; 86];
     put_sample(&mut file, false, 1);
     let place = usize::from(at);
-    print!(rt; "read, changed {at} {} {x}:", entry_or(&file, place, 0))?;
+    let _ = print!(rt; "read, changed {at} {} {x}:", entry_or(&file, place, 0));
     write_u8(&mut file, place, x);
-    tell_read(rt, &file, times, lows, highs)
+    tell_read(rt, &file, times, lows, highs);
 }
 
 // The trials fill the same lists: what one left in them shows in the next.
-pub fn sample(rt: &impl Print) -> io::Result<()> {
+pub fn sample(rt: &impl Print) {
     let mut times = [1u32; READ_ROOM];
     let mut lows = [2i32; READ_ROOM];
     let mut highs = [3i32; READ_ROOM];
     let mut file = [0u8; 86];
     put_sample(&mut file, false, 1);
-    print!(rt; "read 86:")?;
-    tell_read(rt, &file, &mut times, &mut lows, &mut highs)?;
-    tell_ranges(rt, &times, &lows, &highs)?;
+    let _ = print!(rt; "read 86:");
+    tell_read(rt, &file, &mut times, &mut lows, &mut highs);
+    tell_ranges(rt, &times, &lows, &highs);
     for (at, x) in TABLE {
-        read_changed(rt, at, x, &mut times, &mut lows, &mut highs)?;
+        read_changed(rt, at, x, &mut times, &mut lows, &mut highs);
     }
-    Ok(())
 }

@@ -1,32 +1,33 @@
 // A call of Segment, and what is written of its answer.
-use crate::rows::Columns;
+use crate::rows::{Columns, OLD, OLD_LINE};
 use definitions::limits::SEGMENT_ROOM;
 use definitions::refusals::Refusal;
 use drift::segment;
-use std::io;
 use testing::lists::lent;
 use testing::telling::Seen;
 
 // As many rows are written from the start on, and the last one.
 const SHOWN: usize = 6;
 
-fn tell_end(rt: &impl Print, answer: Result<usize, Refusal>, seen: Seen) -> io::Result<()> {
+fn tell_end(rt: &impl Print, answer: Result<usize, Refusal>, seen: Seen) {
     match answer {
         Ok(count) => {
-            print!(rt; "segments {count}, digest {}", seen.digest)?;
+            let _ = print!(rt; "segments {count}, digest {}", seen.digest);
         }
-        Err(refusal) => print!(rt; "refused {}", u8::from(refusal))?,
+        Err(refusal) => {
+            let _ = print!(rt; "refused {}", u8::from(refusal));
+        }
     }
-    println!(rt; ", rest {}", seen.rest())
+    let _ = println!(rt; ", rest {}", seen.rest());
 }
 
 // Writes what the slices hold, place by place.
-fn see_all(rt: &impl Print, count: usize, columns: &Columns) -> io::Result<Seen> {
+fn see_all(rt: &impl Print, count: usize, columns: Columns<'_>) -> Seen {
     let mut seen = Seen::nothing();
     for place in 0..SEGMENT_ROOM {
-        seen.see(rt, columns.numbers(place), place, count, SHOWN)?;
+        seen.see(rt, columns.numbers(place), place, count, SHOWN);
     }
-    Ok(seen)
+    seen
 }
 
 // Calls Segment, and writes all there is to its answer. The slices are as long as they have to be, but for one of
@@ -40,8 +41,18 @@ pub fn tell(
     times: &[u32],
     lows: &[i32],
     highs: &[i32],
-) -> io::Result<()> {
-    let mut columns = Columns::new();
+) {
+    let mut first_times = [OLD.first_time; SEGMENT_ROOM];
+    let mut last_times = [OLD.last_time; SEGMENT_ROOM];
+    let mut counts = [OLD.count; SEGMENT_ROOM];
+    let mut slow_ps = [OLD_LINE.p; SEGMENT_ROOM];
+    let mut slow_qs = [OLD_LINE.q; SEGMENT_ROOM];
+    let mut slow_ds = [OLD_LINE.d; SEGMENT_ROOM];
+    let mut fast_ps = [OLD_LINE.p; SEGMENT_ROOM];
+    let mut fast_qs = [OLD_LINE.q; SEGMENT_ROOM];
+    let mut fast_ds = [OLD_LINE.d; SEGMENT_ROOM];
+    let mut somes = [OLD.outlook.some; SEGMENT_ROOM];
+    let mut alls = [OLD.outlook.all; SEGMENT_ROOM];
     let answer = segment(
         level,
         direction,
@@ -49,18 +60,31 @@ pub fn tell(
         times,
         lows,
         highs,
-        lent(&mut columns.first_times, short == 0),
-        lent(&mut columns.last_times, short == 1),
-        lent(&mut columns.counts, short == 2),
-        lent(&mut columns.slow_ps, short == 3),
-        lent(&mut columns.slow_qs, short == 4),
-        lent(&mut columns.slow_ds, short == 5),
-        lent(&mut columns.fast_ps, short == 6),
-        lent(&mut columns.fast_qs, short == 7),
-        lent(&mut columns.fast_ds, short == 8),
-        lent(&mut columns.somes, short == 9),
-        lent(&mut columns.alls, short == 10),
+        lent(&mut first_times, short == 0),
+        lent(&mut last_times, short == 1),
+        lent(&mut counts, short == 2),
+        lent(&mut slow_ps, short == 3),
+        lent(&mut slow_qs, short == 4),
+        lent(&mut slow_ds, short == 5),
+        lent(&mut fast_ps, short == 6),
+        lent(&mut fast_qs, short == 7),
+        lent(&mut fast_ds, short == 8),
+        lent(&mut somes, short == 9),
+        lent(&mut alls, short == 10),
     );
-    let seen = see_all(rt, answer.unwrap_or(0), &columns)?;
-    tell_end(rt, answer, seen)
+    let columns = Columns {
+        first_times: &first_times,
+        last_times: &last_times,
+        counts: &counts,
+        slow_ps: &slow_ps,
+        slow_qs: &slow_qs,
+        slow_ds: &slow_ds,
+        fast_ps: &fast_ps,
+        fast_qs: &fast_qs,
+        fast_ds: &fast_ds,
+        somes: &somes,
+        alls: &alls,
+    };
+    let seen = see_all(rt, answer.unwrap_or(0), columns);
+    tell_end(rt, answer, seen);
 }

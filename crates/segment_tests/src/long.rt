@@ -1,6 +1,5 @@
 // Traces by formula.
 use crate::answers::tell;
-use std::io;
 use testing::lists::first;
 use testing::shapes::{LATE_FIRST, MOST_MADE, Shape, WIDE, WIDE_FIRST, WIDE_RAGGED, fill};
 
@@ -14,12 +13,12 @@ fn lists(
     level: i32,
     n: usize,
     highs_n: usize,
-) -> io::Result<()> {
+) {
     let mut times = [0u32; MOST_MADE];
     let mut lows = [0i32; MOST_MADE];
     let mut highs = [0i32; MOST_MADE];
     fill(shape, start, gap, &mut times, &mut lows, &mut highs);
-    println!(rt; "# {name}")?;
+    let _ = println!(rt; "# {name}");
     tell(
         rt,
         11,
@@ -29,24 +28,17 @@ fn lists(
         first(&times, n),
         first(&lows, n),
         first(&highs, highs_n),
-    )
+    );
 }
 
-fn ranges(
-    rt: &impl Print,
-    name: &str,
-    shape: Shape,
-    start: u64,
-    gap: u64,
-    level: i32,
-) -> io::Result<()> {
-    lists(rt, name, shape, start, gap, level, 4096, 4096)
+fn ranges(rt: &impl Print, name: &str, shape: Shape, start: u64, gap: u64, level: i32) {
+    lists(rt, name, shape, start, gap, level, 4096, 4096);
 }
 
 // ---- one segment
 
-fn bowl(rt: &impl Print) -> io::Result<()> {
-    ranges(rt, "bowl", Shape::Bowl, 0, 1, 268435456)?;
+fn bowl(rt: &impl Print) {
+    ranges(rt, "bowl", Shape::Bowl, 0, 1, 268435456);
     ranges(
         rt,
         "bowl, wide gaps",
@@ -54,7 +46,7 @@ fn bowl(rt: &impl Print) -> io::Result<()> {
         WIDE_FIRST,
         WIDE,
         5000002,
-    )?;
+    );
     ranges(
         rt,
         "bowl, the last times",
@@ -62,12 +54,12 @@ fn bowl(rt: &impl Print) -> io::Result<()> {
         LATE_FIRST,
         1,
         5004095,
-    )
+    );
 }
 
-fn waist(rt: &impl Print) -> io::Result<()> {
-    ranges(rt, "waist", Shape::Waist, 0, 1, 268435456)?;
-    ranges(rt, "waist, wide gaps", Shape::Waist, WIDE_FIRST, WIDE, 3)?;
+fn waist(rt: &impl Print) {
+    ranges(rt, "waist", Shape::Waist, 0, 1, 268435456);
+    ranges(rt, "waist, wide gaps", Shape::Waist, WIDE_FIRST, WIDE, 3);
     ranges(
         rt,
         "waist, the last times",
@@ -75,12 +67,12 @@ fn waist(rt: &impl Print) -> io::Result<()> {
         LATE_FIRST,
         1,
         4095,
-    )?;
-    lists(rt, "waist, first half", Shape::Waist, 0, 1, 2, 2048, 2048)
+    );
+    lists(rt, "waist, first half", Shape::Waist, 0, 1, 2, 2048, 2048);
 }
 
-fn full(rt: &impl Print) -> io::Result<()> {
-    ranges(rt, "full", Shape::Full, 0, 1, 0)?;
+fn full(rt: &impl Print) {
+    ranges(rt, "full", Shape::Full, 0, 1, 0);
     ranges(
         rt,
         "full, wide gaps",
@@ -88,7 +80,7 @@ fn full(rt: &impl Print) -> io::Result<()> {
         WIDE_FIRST,
         WIDE,
         268435456,
-    )?;
+    );
     ranges(
         rt,
         "full, the last times",
@@ -96,13 +88,13 @@ fn full(rt: &impl Print) -> io::Result<()> {
         LATE_FIRST,
         1,
         -268435456,
-    )
+    );
 }
 
 // ---- as many segments as there can be
 
-fn parabola(rt: &impl Print) -> io::Result<()> {
-    ranges(rt, "parabola", Shape::Parabola, 0, 1, 20000000)?;
+fn parabola(rt: &impl Print) {
+    ranges(rt, "parabola", Shape::Parabola, 0, 1, 20000000);
     ranges(
         rt,
         "parabola, wide gaps",
@@ -110,7 +102,7 @@ fn parabola(rt: &impl Print) -> io::Result<()> {
         WIDE_FIRST,
         WIDE,
         16769025,
-    )?;
+    );
     ranges(
         rt,
         "parabola, the last times",
@@ -118,7 +110,7 @@ fn parabola(rt: &impl Print) -> io::Result<()> {
         LATE_FIRST,
         1,
         9000000,
-    )?;
+    );
     lists(
         rt,
         "parabola, the last segment open",
@@ -128,12 +120,12 @@ fn parabola(rt: &impl Print) -> io::Result<()> {
         268435456,
         4095,
         4095,
-    )
+    );
 }
 
-fn zigzag(rt: &impl Print) -> io::Result<()> {
-    ranges(rt, "zigzag", Shape::Zigzag, 0, 1, -268435456)?;
-    ranges(rt, "zigzag, wide gaps", Shape::Zigzag, WIDE_FIRST, WIDE, 0)?;
+fn zigzag(rt: &impl Print) {
+    ranges(rt, "zigzag", Shape::Zigzag, 0, 1, -268435456);
+    ranges(rt, "zigzag, wide gaps", Shape::Zigzag, WIDE_FIRST, WIDE, 0);
     ranges(
         rt,
         "zigzag, the last times",
@@ -141,14 +133,14 @@ fn zigzag(rt: &impl Print) -> io::Result<()> {
         LATE_FIRST,
         1,
         268435456,
-    )
+    );
 }
 
 // ---- some in between
 
-fn drift(rt: &impl Print) -> io::Result<()> {
-    ranges(rt, "drift", Shape::Drift, 0, 7, 20)?;
-    ranges(rt, "drift, every gap 1", Shape::Drift, 0, 1, 0)?;
+fn drift(rt: &impl Print) {
+    ranges(rt, "drift", Shape::Drift, 0, 7, 20);
+    ranges(rt, "drift, every gap 1", Shape::Drift, 0, 1, 0);
     ranges(
         rt,
         "drift, the last times",
@@ -156,13 +148,13 @@ fn drift(rt: &impl Print) -> io::Result<()> {
         LATE_FIRST,
         1,
         -20,
-    )?;
-    ranges(rt, "drift, wide gaps", Shape::Drift, 0, WIDE_RAGGED, 56)
+    );
+    ranges(rt, "drift, wide gaps", Shape::Drift, 0, WIDE_RAGGED, 56);
 }
 
-fn swings(rt: &impl Print) -> io::Result<()> {
-    ranges(rt, "swings", Shape::Swings, 0, 100, 268435456)?;
-    ranges(rt, "swings, every gap 1", Shape::Swings, 0, 1, 0)?;
+fn swings(rt: &impl Print) {
+    ranges(rt, "swings", Shape::Swings, 0, 100, 268435456);
+    ranges(rt, "swings, every gap 1", Shape::Swings, 0, 1, 0);
     ranges(
         rt,
         "swings, the last times",
@@ -170,7 +162,7 @@ fn swings(rt: &impl Print) -> io::Result<()> {
         LATE_FIRST,
         1,
         240000000,
-    )?;
+    );
     ranges(
         rt,
         "swings, wide gaps",
@@ -178,13 +170,13 @@ fn swings(rt: &impl Print) -> io::Result<()> {
         0,
         WIDE_RAGGED,
         200000000,
-    )
+    );
 }
 
 // ---- one range too many
 
-fn too_long(rt: &impl Print) -> io::Result<()> {
-    lists(rt, "4097 ranges", Shape::Bowl, 0, 1, 0, 4097, 4097)?;
+fn too_long(rt: &impl Print) {
+    lists(rt, "4097 ranges", Shape::Bowl, 0, 1, 0, 4097, 4097);
     lists(
         rt,
         "4097 ranges and a level above",
@@ -194,7 +186,7 @@ fn too_long(rt: &impl Print) -> io::Result<()> {
         268435457,
         4097,
         4097,
-    )?;
+    );
     lists(
         rt,
         "4097 ranges but for one high",
@@ -204,16 +196,16 @@ fn too_long(rt: &impl Print) -> io::Result<()> {
         0,
         4097,
         4096,
-    )
+    );
 }
 
-pub fn all(rt: &impl Print) -> io::Result<()> {
-    bowl(rt)?;
-    waist(rt)?;
-    full(rt)?;
-    parabola(rt)?;
-    zigzag(rt)?;
-    drift(rt)?;
-    swings(rt)?;
-    too_long(rt)
+pub fn all(rt: &impl Print) {
+    bowl(rt);
+    waist(rt);
+    full(rt);
+    parabola(rt);
+    zigzag(rt);
+    drift(rt);
+    swings(rt);
+    too_long(rt);
 }

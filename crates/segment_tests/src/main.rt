@@ -8,12 +8,9 @@ mod long; // long.rt: traces by formula
 mod rows; // rows.rt: the eleven numbers of a segment
 mod trials; // trials.rt: traces from text
 
-use std::io::{self, BufRead, BufReader};
-
-fn main(rt: HostRuntime) -> io::Result<()> {
-    let alloc = rt.alloc();
-    for line in BufReader::new(alloc, rt.reader())?.lines(alloc) {
-        trials::tell_line(&rt, alloc, line?.as_str())?;
-    }
-    long::all(&rt)
+fn main(rt: HostRuntime) {
+    let mut text = io::large_buffer();
+    let n = io::read_full(0, &mut text);
+    trials::all(&rt, &text[..n]);
+    long::all(&rt);
 }

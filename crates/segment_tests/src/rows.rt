@@ -1,39 +1,38 @@
 // The eleven numbers of a segment: as they stand in the slices, as a line of text, and in a digest.
-ghost use Rattle.std.specs.Prelude.{◌<◌};
-
-use definitions::limits::{NO_TIME, SEGMENT_ROOM};
-use std::{fmt, io};
+use definitions::limits::NO_TIME;
+use std::fmt;
+use testing::lists::entry_or;
 use testing::telling::{Entry, mixed, mixed_signed};
 use values::Line;
 use values::rows::{OutlookRow, Row};
 
-// The slices that Segment fills.
-#[derive(Drop)]
-pub struct Columns {
-    pub first_times: [u32; SEGMENT_ROOM],
-    pub last_times: [u32; SEGMENT_ROOM],
-    pub counts: [u32; SEGMENT_ROOM],
-    pub slow_ps: [i64; SEGMENT_ROOM],
-    pub slow_qs: [i64; SEGMENT_ROOM],
-    pub slow_ds: [i64; SEGMENT_ROOM],
-    pub fast_ps: [i64; SEGMENT_ROOM],
-    pub fast_qs: [i64; SEGMENT_ROOM],
-    pub fast_ds: [i64; SEGMENT_ROOM],
-    pub somes: [u64; SEGMENT_ROOM],
-    pub alls: [u64; SEGMENT_ROOM],
+// The slices that Segment filled.
+#[derive(Clone, Copy)]
+pub struct Columns<'a> {
+    pub first_times: &'a [u32],
+    pub last_times: &'a [u32],
+    pub counts: &'a [u32],
+    pub slow_ps: &'a [i64],
+    pub slow_qs: &'a [i64],
+    pub slow_ds: &'a [i64],
+    pub fast_ps: &'a [i64],
+    pub fast_qs: &'a [i64],
+    pub fast_ds: &'a [i64],
+    pub somes: &'a [u64],
+    pub alls: &'a [u64],
 }
 
 // What stands at one place of them.
 #[derive(Clone, Copy, PartialEq)]
 pub struct Numbers(Row);
 
-const OLD_LINE: Line = Line {
+pub const OLD_LINE: Line = Line {
     p: 77,
     q: 77,
     d: 77,
 };
 
-const OLD: Row = Row {
+pub const OLD: Row = Row {
     first_time: 77,
     last_time: 77,
     count: 77,
@@ -45,44 +44,26 @@ const OLD: Row = Row {
     },
 };
 
-impl Columns {
-    // With what every entry holds before a call.
-    pub fn new() -> Columns {
-        Columns {
-            first_times: [OLD.first_time; SEGMENT_ROOM],
-            last_times: [OLD.last_time; SEGMENT_ROOM],
-            counts: [OLD.count; SEGMENT_ROOM],
-            slow_ps: [OLD_LINE.p; SEGMENT_ROOM],
-            slow_qs: [OLD_LINE.q; SEGMENT_ROOM],
-            slow_ds: [OLD_LINE.d; SEGMENT_ROOM],
-            fast_ps: [OLD_LINE.p; SEGMENT_ROOM],
-            fast_qs: [OLD_LINE.q; SEGMENT_ROOM],
-            fast_ds: [OLD_LINE.d; SEGMENT_ROOM],
-            somes: [OLD.outlook.some; SEGMENT_ROOM],
-            alls: [OLD.outlook.all; SEGMENT_ROOM],
-        }
-    }
-
-    pub fn numbers(&self, place: usize) -> Numbers
-        requires { place < SEGMENT_ROOM }
-    {
+impl Columns<'_> {
+    // Past the end of a slice, 0 stands.
+    pub fn numbers(&self, place: usize) -> Numbers {
         Numbers(Row {
-            first_time: self.first_times[place],
-            last_time: self.last_times[place],
-            count: self.counts[place],
+            first_time: entry_or(self.first_times, place, 0),
+            last_time: entry_or(self.last_times, place, 0),
+            count: entry_or(self.counts, place, 0),
             outlook: OutlookRow {
                 slow: Line {
-                    p: self.slow_ps[place],
-                    q: self.slow_qs[place],
-                    d: self.slow_ds[place],
+                    p: entry_or(self.slow_ps, place, 0),
+                    q: entry_or(self.slow_qs, place, 0),
+                    d: entry_or(self.slow_ds, place, 0),
                 },
                 fast: Line {
-                    p: self.fast_ps[place],
-                    q: self.fast_qs[place],
-                    d: self.fast_ds[place],
+                    p: entry_or(self.fast_ps, place, 0),
+                    q: entry_or(self.fast_qs, place, 0),
+                    d: entry_or(self.fast_ds, place, 0),
                 },
-                some: self.somes[place],
-                all: self.alls[place],
+                some: entry_or(self.somes, place, 0),
+                all: entry_or(self.alls, place, 0),
             },
         })
     }
@@ -132,26 +113,27 @@ impl Entry for Numbers {
     }
 
     // The report's line of the segment at this place. One range is open.
-    fn tell(self, rt: &impl Print, place: usize) -> io::Result<()> {
+    fn tell(self, rt: &impl Print, place: usize) {
         let Row {
             first_time,
             last_time,
             count,
             outlook,
         } = self.0;
-        print!(rt; "segment {place} from {first_time} to {last_time}")?;
+        let _ = print!(rt; "segment {place} from {first_time} to {last_time}");
         if count == 1 {
-            return println!(rt; " ranges 1 open");
+            let _ = println!(rt; " ranges 1 open");
+            return;
         }
-        print!(rt;
+        let _ = print!(rt;
             " ranges {count} slow {} fast {}",
             OfLine(outlook.slow),
             OfLine(outlook.fast)
-        )?;
-        println!(rt;
+        );
+        let _ = println!(rt;
             " some {} all {}",
             OfTime(outlook.some),
             OfTime(outlook.all)
-        )
+        );
     }
 }

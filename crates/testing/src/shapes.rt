@@ -2,6 +2,7 @@
 ghost use Rattle.std.specs.Prelude.{◌<◌, ◌≤◌};
 
 use definitions::limits::MOST_RANGES;
+use fields::places::store;
 
 #[derive(Clone, Copy)]
 pub enum Shape {
@@ -126,7 +127,7 @@ fn value(x: u64) -> i32 {
     }
 }
 
-// Fills three lists. The times begin with the first one; the gap is the one between due times.
+// Fills three lists of at most 4,097 entries, each to its end. The times begin with the first one; the gap is the one between due times.
 pub fn fill(
     shape: Shape,
     first: u64,
@@ -135,11 +136,11 @@ pub fn fill(
     lows: &mut [i32],
     highs: &mut [i32],
 ) {
-    let ranges = times.iter_mut().zip(lows).zip(highs);
-    for (k, ((time, low), high)) in (0..MOST_MADE as u64).zip(ranges) {
-        let band = band_of(shape, k, gap);
-        *time = time_of(k, first, gap, band.late);
-        *low = value(band.low);
-        *high = value(band.high);
+    for k in 0..MOST_MADE {
+        let place = k as u64;
+        let band = band_of(shape, place, gap);
+        store(times, k, time_of(place, first, gap, band.late));
+        store(lows, k, value(band.low));
+        store(highs, k, value(band.high));
     }
 }

@@ -1,26 +1,27 @@
 // What is written of a trial.
 use definitions::refusals::Refusal;
 use std::fmt::Display;
-use std::io;
 use testing::lists::entry_or;
 
 // An answer: what was accepted, or the number of the refusal.
-pub fn tell_answer<T: Display + Drop>(
-    rt: &impl Print,
-    answer: Result<T, Refusal>,
-) -> io::Result<()> {
+pub fn tell_answer<T: Display + Drop>(rt: &impl Print, answer: Result<T, Refusal>) {
     match answer {
-        Ok(accepted) => print!(rt; " accepted {accepted}"),
-        Err(refusal) => print!(rt; " refused {}", u8::from(refusal)),
+        Ok(accepted) => {
+            let _ = print!(rt; " accepted {accepted}");
+        }
+        Err(refusal) => {
+            let _ = print!(rt; " refused {}", u8::from(refusal));
+        }
     }
 }
 
 // The slices after a call, by their digests before it and now.
-pub fn tell_contents(rt: &impl Print, before: u64, now: u64) -> io::Result<()> {
+pub fn tell_contents(rt: &impl Print, before: u64, now: u64) {
     if before == now {
-        return println!(rt; ", slices kept");
+        let _ = println!(rt; ", slices kept");
+        return;
     }
-    println!(rt; ", slices {now}")
+    let _ = println!(rt; ", slices {now}");
 }
 
 // A byte or a number more.

@@ -1,7 +1,6 @@
 // A call of Write, what is written of its answer, and what is read back.
 use definitions::limits::READ_ROOM;
 use round_trip::read_then_write;
-use std::io;
 use trace::write;
 use trace_testing::reading::tell_read;
 use trace_testing::telling::{bytes_digest, tell_answer, tell_contents};
@@ -17,11 +16,11 @@ pub fn tell_write(
     lows: &[i32],
     highs: &[i32],
     file: &mut [u8],
-) -> io::Result<()> {
+) {
     let before = bytes_digest(file);
     let answer = write(address, level, direction, step, times, lows, highs, file);
-    tell_answer(rt, answer)?;
-    tell_contents(rt, before, bytes_digest(file))
+    tell_answer(rt, answer);
+    tell_contents(rt, before, bytes_digest(file));
 }
 
 // Writes what is read of a file, and the rest of a line.
@@ -32,19 +31,19 @@ pub fn tell_copy(
     lows: &mut [i32],
     highs: &mut [i32],
     file: &mut [u8],
-) -> io::Result<()> {
+) {
     let before = bytes_digest(file);
-    tell_answer(rt, read_then_write(made, times, lows, highs, file))?;
-    tell_contents(rt, before, bytes_digest(file))
+    tell_answer(rt, read_then_write(made, times, lows, highs, file));
+    tell_contents(rt, before, bytes_digest(file));
 }
 
 // Reads what was written, and tells whether it is what was made.
-pub fn read_back(rt: &impl Print, file: &[u8], made: &[u8]) -> io::Result<()> {
+pub fn read_back(rt: &impl Print, file: &[u8], made: &[u8]) {
     let mut times = [1u32; READ_ROOM];
     let mut lows = [2i32; READ_ROOM];
     let mut highs = [3i32; READ_ROOM];
     let bytes = if file == made { "the same" } else { "other" };
-    println!(rt; "  {bytes} bytes")?;
-    print!(rt; "  read:")?;
-    tell_read(rt, file, &mut times, &mut lows, &mut highs)
+    let _ = println!(rt; "  {bytes} bytes");
+    let _ = print!(rt; "  read:");
+    tell_read(rt, file, &mut times, &mut lows, &mut highs);
 }

@@ -7,16 +7,15 @@ mod lists; // lists.rt: lists and slices of different lengths
 mod values; // values.rt: values at the ends of their spans, and past them
 
 use definitions::limits::WRITE_ROOM;
-use std::io;
 
 // The trials before the last fill the same bytes: what one left in them shows in the next.
-fn main(rt: HostRuntime) -> io::Result<()> {
+fn main(rt: HostRuntime) {
     let mut file = [170u8; WRITE_ROOM];
-    lists::most(&rt, &mut file)?;
-    values::all(&rt, &mut file)?;
-    lists::cut(&rt, &mut file)?;
-    lists::falling(&rt, &mut file)?;
-    lists::stepped(&rt, &mut file)?;
-    lists::falling_stepped(&rt, &mut file)?;
-    lists::lengths(&rt)
+    lists::most(&rt, &mut file);
+    values::all(&rt, &mut file);
+    lists::cut(&rt, &mut file);
+    lists::falling(&rt, &mut file);
+    lists::stepped(&rt, &mut file);
+    lists::falling_stepped(&rt, &mut file);
+    lists::lengths(&rt);
 }
