@@ -3,7 +3,7 @@ use definitions::limits::CORNER_ROOM;
 use definitions::refusals::Refusal;
 use drift::corners;
 use testing::lists::lent;
-use testing::telling::{Entry, Seen, mixed_signed};
+use testing::telling::{Seen, Shown, mixed_signed};
 use values::Line;
 
 // As many corners are written from the start on, and the last one.
@@ -13,7 +13,7 @@ const SHOWN: usize = 12;
 #[derive(Clone, Copy, PartialEq)]
 struct Corner(Line);
 
-impl Entry for Corner {
+impl Shown for Corner {
     const OLD: Corner = Corner(Line {
         p: 77,
         q: 77,
@@ -25,7 +25,7 @@ impl Entry for Corner {
         mixed_signed(mixed_signed(mixed_signed(digest, p), q), d)
     }
 
-    fn tell(self, rt: &impl Print, _place: usize) {
+    fn show(self, rt: &impl Print, _place: usize) {
         let Line { p, q, d } = self.0;
         let _ = print!(rt; " ({p}, {q}, {d})");
     }
@@ -35,7 +35,7 @@ impl Entry for Corner {
 fn see_all(rt: &impl Print, count: usize, ps: &[i64], qs: &[i64], ds: &[i64]) -> Seen {
     let mut seen = Seen::nothing();
     for (place, ((&p, &q), &d)) in ps.iter().zip(qs).zip(ds).enumerate() {
-        seen.see(rt, Corner(Line { p, q, d }), place, count, SHOWN);
+        seen.show(rt, Corner(Line { p, q, d }), place, count, SHOWN);
     }
     seen
 }

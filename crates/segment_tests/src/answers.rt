@@ -25,7 +25,7 @@ fn tell_end(rt: &impl Print, answer: Result<usize, Refusal>, seen: Seen) {
 fn see_all(rt: &impl Print, count: usize, columns: Columns<'_>) -> Seen {
     let mut seen = Seen::nothing();
     for place in 0..SEGMENT_ROOM {
-        seen.see(rt, columns.numbers(place), place, count, SHOWN);
+        seen.show(rt, columns.numbers(place), place, count, SHOWN);
     }
     seen
 }

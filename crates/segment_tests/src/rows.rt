@@ -2,7 +2,7 @@
 use definitions::limits::NO_TIME;
 use std::fmt;
 use testing::lists::entry_or;
-use testing::telling::{Entry, mixed, mixed_signed};
+use testing::telling::{Shown, mixed, mixed_signed};
 use values::Line;
 use values::rows::{OutlookRow, Row};
 
@@ -99,7 +99,7 @@ impl fmt::Display for OfTime {
     }
 }
 
-impl Entry for Numbers {
+impl Shown for Numbers {
     const OLD: Numbers = Numbers(OLD);
 
     fn mixed(self, digest: u64) -> u64 {
@@ -113,7 +113,7 @@ impl Entry for Numbers {
     }
 
     // The report's line of the segment at this place. One range is open.
-    fn tell(self, rt: &impl Print, place: usize) {
+    fn show(self, rt: &impl Print, place: usize) {
         let Row {
             first_time,
             last_time,
