@@ -16,7 +16,7 @@ pub fn mixed_signed(digest: u64, x: i64) -> u64 {
     mixed(digest, x.rem_euclid(PRIME).cast_unsigned())
 }
 
-// What stands at one place of the slices that a call fills, for a program that is to know of a write that fails.
+// What stands at one place of the slices that a call fills, for a program that is to know of a write that fails. None here is; theirs is `Shown`.
 pub trait Entry: Copy + PartialEq {
     // What stands at every place before a call.
     const OLD: Self;
@@ -52,7 +52,8 @@ impl Seen {
         }
     }
 
-    // One place more. Of the entries that the call put there, `count`, the first are told, and the last one.
+    // One place more. Of the entries that the call put there, `count`, the first are told, and the last one. The failure of
+    // that write is given.
     pub fn see<E: Entry>(
         &mut self,
         rt: &impl Print,
@@ -161,5 +162,8 @@ mod tests {
         }
         assert!(rt; seen.kept && shown.kept && seen.digest == shown.digest);
         assert!(rt; seen.see(&rt, Number(5), 0, 1, 1).is_ok());
+        assert!(rt; seen.see(&Full, Number(78), 5, 4, 1).is_ok());
+        shown.show(&Full, Number(78), 5, 4, 1);
+        assert!(rt; !seen.kept && !shown.kept);
     }
 }
